@@ -1,0 +1,31 @@
+-- What a disk that tells tells, and what its calls do to that.
+use Rattle.std.specs.Prelude.{◌≡◌, List, [], ℕ, Result, MatchResult, Option, Some, None}
+use Rattle.wse_disk.specs.Reading.{Reading, Write, written, DiffersAt}
+
+-- What a disk tells.
+pub record Standing : Type 0 where
+  pub reading : Reading
+
+-- Of a disk that tells nothing.
+abbrev pub untold : Standing
+untold = record { reading = record { files = [] } }
+
+abbrev pub bytes_or_none : Option (List ℕ) → List ℕ
+bytes_or_none (Some bytes) = bytes
+bytes_or_none None = []
+
+-- After the write.
+abbrev pub wrote : Write → Standing → Standing
+wrote w s = record s { reading = written w s.reading }
+
+-- After a write that failed: it changed at most what it names.
+abbrev pub FailedWrite : Write → Standing → Standing → Type 0
+FailedWrite w old new = DiffersAt w old.reading new.reading
+
+-- On Ok the write was done whole.
+abbrev pub Wrote : {T E : Type 0} → Write → Standing → Standing → Result T E → Type 0
+Wrote w old new result = MatchResult result (λ _. new ≡ wrote w old) (λ _. FailedWrite w old new)
+
+-- A sync leaves what is read.
+abbrev pub Synced : {T E : Type 0} → Standing → Standing → Result T E → Type 0
+Synced old new result = MatchResult result (λ _. new ≡ old) (λ _. new ≡ old)

@@ -1,0 +1,53 @@
+-- Trees: finite maps from paths to bytes in which no path is under another.
+use Rattle.std.specs.Prelude.{◌≡◌, ◌⊎◌, ℕ, Bool, true, false, not, ◌||◌, List, Option, is_some}
+use Rattle.std.specs.List.{list_any}
+use Rattle.std.specs.FinMap.{find, put, is_sorted}
+use Rattle.std.specs.FinMap.Entries.{where_key}
+use Rattle.std.specs.Ordering.{eq_by_cmp}
+use Rattle.wse_path.specs.Path.{Path, is_under}
+use Rattle.wse_path.specs.Order.{path_cmp}
+
+-- The files with their contents, in path order: a finite map, which `find` reads.
+abbrev pub Entries : Type 0
+Entries = List (Path × List ℕ)
+
+-- A tree as contracts see it, and how many more files find room without taking memory.
+pub record TreeState : Type 0 where
+  pub files : Entries
+  pub spare : ℕ
+
+-- The bytes at a path.
+abbrev pub content : Entries → Path → Option (List ℕ)
+content files p = find path_cmp p files
+
+abbrev pub is_present : Entries → Path → Bool
+is_present files p = is_some (content files p)
+
+-- The files with these bytes at the path, and all else as it is.
+abbrev pub put_file : Entries → Path → List ℕ → Entries
+put_file files p bytes = put path_cmp p bytes files
+
+-- The files but for the one at the path.
+abbrev pub remove_file : Entries → Path → Entries
+remove_file files p = where_key path_cmp (λ q. not (eq_by_cmp path_cmp p q)) files
+
+-- The second path is at the first, above it or under it.
+abbrev pub is_near : Path → Path → Bool
+is_near p q = eq_by_cmp path_cmp p q || is_under p q || is_under q p
+
+-- No file is at, above or under the path.
+abbrev pub fits : Entries → Path → Bool
+fits files p = not (list_any (λ e. is_near p e.0) files)
+
+-- Some file is under the path.
+abbrev pub is_folder : Entries → Path → Bool
+is_folder files p = list_any (λ e. is_under e.0 p) files
+
+-- A file may be put at the path: it is present, or it fits.
+abbrev pub HasRoom : Entries → Path → Type 0
+HasRoom files p = (is_present files p ≡ true) ⊎ (fits files p ≡ true)
+
+-- The paths rise, and none is under another.
+pub record IsTree (files : Entries) : Type 0 where
+  pub rises : is_sorted path_cmp files ≡ true
+  pub apart : (p q : Path) → is_present files p ≡ true → is_present files q ≡ true → is_under p q ≡ false
