@@ -12,11 +12,11 @@ use Rattle.std.proofs.lemmas.Cmp.{tied_back, alike_right}
 use Rattle.std.proofs.lemmas.List.Sorted.{searchable_from_sorted}
 use Rattle.wse_path.specs.Place.{HasKeyAt, IsGapAt}
 
-and_parts : (a b : Bool) → (a && b) ≡ true → (a ≡ true) × (b ≡ true)
+pub and_parts : (a b : Bool) → (a && b) ≡ true → (a ≡ true) × (b ≡ true)
 and_parts true b h = (refl, h)
 and_parts false b h = (h, cc)
 
-less_so : (r : Ordering) → is_lt r ≡ true → r ≡ Less
+pub less_so : (r : Ordering) → is_lt r ≡ true → r ≡ Less
 less_so Less h = refl
 less_so Equal h = cc
 less_so Greater h = cc

@@ -2,13 +2,15 @@
 use Rattle.std.specs.FinMap.{find, slice_cmp-IsAntisymmetric, nat_cmp-IsAntisymmetric}
 use Rattle.std.specs.List.{list_any}
 use Rattle.std.specs.Prelude.{is_some, Some, cond}
-use Rattle.std.specs.Ordering.{eq_by_cmp, is_eq}
+use Rattle.std.specs.Ordering.{eq_by_cmp, is_eq, is_lt, ordering_reverse}
 use Rattle.std.specs.declared.cmp.Ordering.{Ordering}
 use Rattle.std.specs.declared.cmp.Ordering.TheVariants.{Less, Equal, Greater}
 use Rattle.std.proofs.lemmas.Bool.{or_parts}
-use Rattle.wse_path.specs.Tree.{Entries, is_near, fits, is_present, HasRoom, IsTree}
+use Rattle.wse_path.specs.Tree.{Entries, is_near, fits, is_folder, entry_above, file_above, content, is_present, HasRoom, IsTree}
 use Rattle.wse_path.specs.Path.{Path, is_under}
-use Rattle.std.specs.FinMap.Entries.{find-put, find-where_key}
+use Rattle.std.specs.FinMap.Entries.{find-put, find-where_key, below_all, by_order}
+use Rattle.std.proofs.Common.{option_map, ◌++◌, ◌∙◌}
+use Rattle.wse_path.proofs.EntryLemmas.{and_parts, less_so}
 use Rattle.std.proofs.lemmas.Bool.{le-ltb}
 use Rattle.std.proofs.Common.{◌⊎◌, inl, inr, ◌||◌, length, arith, ◌≤◌}
 use Rattle.std.proofs.Common.{[], ◌∷◌, ◌≡◌, ℕ, Bool, true, false, List, Option, None, subst, sym, refl, ap}
@@ -40,6 +42,14 @@ equal_so Greater h = cc
 
 tied_path : (p q : Path) → path_cmp p q ≡ Equal → p ≡ q
 tied_path p q t = slice_cmp-IsAntisymmetric (slice_cmp-IsAntisymmetric nat_cmp-IsAntisymmetric) p q t
+
+alike_reversed : (o : Ordering) → o ≡ ordering_reverse o → is_eq o ≡ true
+alike_reversed Less e = cc
+alike_reversed Equal e = refl
+alike_reversed Greater e = cc
+
+tied_itself : (p : Path) → eq_by_cmp path_cmp p p ≡ true
+tied_itself p = alike_reversed (path_cmp p p) ((lists_total nat_list_cmp_total).antisymm p p)
 
 -- paths that tie are equal
 pub same_path : (p q : Path) → eq_by_cmp path_cmp p q ≡ true → p ≡ q
@@ -107,3 +117,96 @@ tree_remove es k tree = record {
   rises = rises_remove es k tree.rises;
   apart = λ p q hp hq. tree.apart p q (present_before es k p hp) (present_before es k q hq);
 }
+
+-- where no file is at the path, above it or under it, it fits
+none_near_where : (es : Entries) (p : Path) → is_folder es p ≡ false → file_above es p ≡ None → is_present es p ≡ false → list_any (λ e. is_near p e.0) es ≡ false
+none_near_where [] p folder above here = refl
+none_near_where (e ∷ es) p folder above here =
+    let under = or_parts (is_under e.0 p) (is_folder es p) folder in
+    elim (is_under p e.0) as (λ b. is_under p e.0 ≡ b → option_map (λ (x : Path × List ℕ). x.0) (cond b (Some e) (entry_above es p)) ≡ None → list_any (λ x. is_near p x.0) (e ∷ es) ≡ false) [
+      | true ↦ λ t a. cc
+      | false ↦ λ t a. elim (eq_by_cmp path_cmp p e.0) as (λ b. eq_by_cmp path_cmp p e.0 ≡ b → is_some (cond b (Some e.1) (find path_cmp p es)) ≡ false → list_any (λ x. is_near p x.0) (e ∷ es) ≡ false) [
+        | true ↦ λ u h. cc
+        | false ↦ λ u h. rw (u, t, under.0) (none_near_where es p under.1 a h)
+      ] refl here
+    ] refl above
+
+pub fits_where : (es : Entries) (p : Path) → is_folder es p ≡ false → file_above es p ≡ None → is_present es p ≡ false → fits es p ≡ true
+fits_where es p folder above here = ap not (none_near_where es p folder above here)
+
+-- a path in front of others is present among all of them
+pub present_front : (es rest : Entries) (q : Path) → is_present es q ≡ true → is_present (es ++ rest) q ≡ true
+present_front [] rest q h = cc
+present_front (e ∷ es) rest q h =
+    elim (eq_by_cmp path_cmp q e.0) as (λ b. is_some (cond b (Some e.1) (find path_cmp q es)) ≡ true → is_some (cond b (Some e.1) (find path_cmp q (es ++ rest))) ≡ true) [
+      | true ↦ λ g. refl
+      | false ↦ λ g. present_front es rest q g
+    ] h
+
+present_first : (e : Path × List ℕ) (rest : Entries) → is_present (e ∷ rest) e.0 ≡ true
+present_first e rest = ap (λ b. is_some (cond b (Some e.1) (find path_cmp e.0 rest))) (tied_itself e.0)
+
+present_behind : (es : Entries) (e : Path × List ℕ) (rest : Entries) → is_present (es ++ e ∷ rest) e.0 ≡ true
+present_behind [] e rest = present_first e rest
+present_behind (f ∷ es) e rest =
+    elim (eq_by_cmp path_cmp e.0 f.0) as (λ b. is_some (cond b (Some f.1) (find path_cmp e.0 (es ++ e ∷ rest))) ≡ true) [ true ↦ refl | false ↦ present_behind es e rest ]
+
+-- what is below all of a list is below each of it
+below_one : (x : Path) (es : Entries) (e : Path × List ℕ) (rest : Entries) → below_all path_cmp x (es ++ e ∷ rest) ≡ true → path_cmp x e.0 ≡ Less
+below_one x [] e rest h = less_so (path_cmp x e.0) (and_parts (is_lt (path_cmp x e.0)) (below_all path_cmp x rest) h).0
+below_one x (f ∷ es) e rest h = below_one x es e rest (and_parts (is_lt (path_cmp x f.0)) (below_all path_cmp x (es ++ e ∷ rest)) h).1
+
+above_so : (x y : Path) → path_cmp x y ≡ Less → path_cmp y x ≡ Greater
+above_so x y l = (lists_total nat_list_cmp_total).antisymm y x ∙ ap ordering_reverse l
+
+-- the path of an entry isn't among those before it
+absent_before : (es : Entries) (e : Path × List ℕ) (rest : Entries) → is_sorted path_cmp (es ++ e ∷ rest) ≡ true → is_present es e.0 ≡ false
+absent_before [] e rest s = refl
+absent_before (f ∷ es) e rest s =
+    let parts = and_parts (below_all path_cmp f.0 (es ++ e ∷ rest)) (is_sorted path_cmp (es ++ e ∷ rest)) s in
+    ap (λ o. is_some (cond (is_eq o) (Some f.1) (find path_cmp e.0 es))) (above_so f.0 e.0 (below_one f.0 es e rest parts.0))
+    ∙ absent_before es e rest parts.1
+
+-- where each that is present passes, no entry fails
+none_any_where : (es : Entries) (k : Path) → ((q : Path) → is_present es q ≡ true → is_near k q ≡ false) → list_any (λ e. is_near k e.0) es ≡ false
+none_any_where [] k each = refl
+none_any_where (e ∷ es) k each =
+    rw (each e.0 (present_first e es)) (none_any_where es k (λ q h. each q (elim (eq_by_cmp path_cmp q e.0) as (λ b. is_some (cond b (Some e.1) (find path_cmp q es)) ≡ true) [ true ↦ refl | false ↦ h ])))
+
+near_parts : (a b c : Bool) → a ≡ false → b ≡ false → c ≡ false → (a || b || c) ≡ false
+near_parts a b c f g h = rw (f, g, h) refl
+
+not_tied : (es : Entries) (k q : Path) → is_present es k ≡ false → is_present es q ≡ true → eq_by_cmp path_cmp k q ≡ false
+not_tied es k q absent here =
+    elim (eq_by_cmp path_cmp k q) as (λ b. eq_by_cmp path_cmp k q ≡ b → b ≡ false) [
+      | true ↦ λ t. let same = ap (is_present es) (same_path k q t) in cc
+      | false ↦ λ t. refl
+    ] refl
+
+-- an entry of a tree fits among those before it
+pub fits_front : (es : Entries) (e : Path × List ℕ) (rest : Entries) → IsTree (es ++ e ∷ rest) → fits es e.0 ≡ true
+fits_front es e rest tree =
+    ap not (none_any_where es e.0 (λ q h.
+    let here = present_front es (e ∷ rest) q h in
+    let there = present_behind es e rest in
+    near_parts _ _ _ (not_tied es e.0 q (absent_before es e rest tree.rises) h) (tree.apart e.0 q there here) (tree.apart q e.0 here there)))
+
+-- an entry behind the others is put at their end
+pub put_front : (es : Entries) (e : Path × List ℕ) (rest : Entries) → is_sorted path_cmp (es ++ e ∷ rest) ≡ true → put_file es e.0 e.1 ≡ es ++ e ∷ []
+put_front [] e rest s = refl
+put_front (f ∷ es) e rest s =
+    let parts = and_parts (below_all path_cmp f.0 (es ++ e ∷ rest)) (is_sorted path_cmp (es ++ e ∷ rest)) s in
+    ap (λ o. by_order o ((e.0, e.1) ∷ f ∷ es) ((f.0, e.1) ∷ es) (f ∷ put_file es e.0 e.1)) (above_so f.0 e.0 (below_one f.0 es e rest parts.0))
+    ∙ ap (λ l. f ∷ l) (put_front es e rest parts.1)
+
+-- the content of an entry of a tree
+pub content_of : (es : Entries) (e : Path × List ℕ) (rest : Entries) → is_sorted path_cmp (es ++ e ∷ rest) ≡ true → content (es ++ e ∷ rest) e.0 ≡ Some e.1
+content_of [] e rest s = ap (λ b. cond b (Some e.1) (find path_cmp e.0 rest)) (tied_itself e.0)
+content_of (f ∷ es) e rest s =
+    let parts = and_parts (below_all path_cmp f.0 (es ++ e ∷ rest)) (is_sorted path_cmp (es ++ e ∷ rest)) s in
+    ap (λ o. cond (is_eq o) (Some f.1) (find path_cmp e.0 (es ++ e ∷ rest))) (above_so f.0 e.0 (below_one f.0 es e rest parts.0))
+    ∙ content_of es e rest parts.1
+
+-- no tree is smaller than one without files
+pub tree_none : IsTree []
+tree_none = record { rises = refl; apart = λ p q hp hq. cc }

@@ -1,5 +1,6 @@
 -- Trees: finite maps from paths to bytes in which no path is under another.
-use Rattle.std.specs.Prelude.{◌≡◌, ◌⊎◌, ℕ, Bool, true, false, not, ◌||◌, List, Option, is_some}
+use Rattle.std.specs.Prelude.{◌≡◌, ◌⊎◌, ℕ, Bool, true, false, not, ◌||◌, List, Option, option_map, is_some}
+use Rattle.std.specs.Prelude.{find as find_entry}
 use Rattle.std.specs.List.{list_any}
 use Rattle.std.specs.FinMap.{find, put, is_sorted}
 use Rattle.std.specs.FinMap.Entries.{where_key}
@@ -42,6 +43,14 @@ fits files p = not (list_any (λ e. is_near p e.0) files)
 -- Some file is under the path.
 abbrev pub is_folder : Entries → Path → Bool
 is_folder files p = list_any (λ e. is_under e.0 p) files
+
+-- The first entry in path order whose path is above this one.
+abbrev pub entry_above : Entries → Path → Option (Path × List ℕ)
+entry_above files p = find_entry (λ e. is_under p e.0) files
+
+-- The file that stands above the path.
+abbrev pub file_above : Entries → Path → Option Path
+file_above files p = option_map (λ e. e.0) (entry_above files p)
 
 -- A file may be put at the path: it is present, or it fits.
 abbrev pub HasRoom : Entries → Path → Type 0

@@ -5,7 +5,7 @@ ghost use Rattle.std.specs.Option.{option_copied};
 ghost use Rattle.std.specs.Vec.{vec_capacity};
 ghost use Rattle.wse_path.specs.Order.{path_cmp};
 ghost use Rattle.wse_path.specs.Place.{HasKeyAt, IsGapAt};
-ghost use Rattle.wse_path.specs.Tree.{content, is_present, put_file, remove_file, is_near, fits, is_folder, HasRoom, IsTree};
+ghost use Rattle.wse_path.specs.Tree.{content, is_present, put_file, remove_file, is_near, fits, is_folder, entry_above, file_above, HasRoom, IsTree};
 
 use crate::items::Bytes;
 use crate::memory::Memory;
@@ -87,6 +87,22 @@ impl Tree {
         ensures { result ≡ is_folder self.now.files path.now }
     {
         self.entries.iter().any(|entry| entry.0.is_under(path))
+    }
+
+    /// The file that stands above the path, if there is one. Takes no memory.
+    pub fn file_above(&self, path: &RelPath) -> Option<&RelPath>
+        ensures { option_copied result ≡ file_above self.now.files path.now }
+    {
+        match self.entry_above(path) {
+            Some(entry) => Some(&entry.0),
+            None => None,
+        }
+    }
+
+    fn entry_above(&self, path: &RelPath) -> Option<&(RelPath, Bytes)>
+        ensures { option_copied result ≡ entry_above self.now.files path.now }
+    {
+        self.entries.iter().find(|entry| path.is_under(&entry.0))
     }
 
     /// Whether nothing is at, above or under the path. Takes no memory.
