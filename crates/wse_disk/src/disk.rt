@@ -6,8 +6,8 @@ ghost use Rattle.wse_disk.specs.Causes.{HasReadCause};
 ghost use Rattle.wse_disk.specs.Reading.Write.{Stores, Erases};
 ghost use Rattle.wse_disk.specs.Calls.{Standing, untold, bytes_or_none, Wrote, Synced};
 
-use std::alloc::Global;
-use wse_path::RelPath;
+use std::alloc::{AllocError, Global};
+use wse_path::{Memory, RelPath};
 
 /// The disk failed.
 #[derive(Debug, Clone, Copy, PartialEq, Eq)]
@@ -20,6 +20,39 @@ pub enum ReadErr {
     Failed,
     /// There was no memory for what was read.
     Memory,
+}
+
+impl From<Failed> for ReadErr {
+    ghost use Rattle.std.specs.Prelude.{◌≡◌};
+    ghost use Rattle.wse_disk.specs.declared.disk.ReadErr.TheVariants.{Failed};
+
+    ghost from_gives = { λ _ e. e ≡ Failed };
+
+    fn from(_: Failed) -> ReadErr {
+        ReadErr::Failed
+    }
+}
+
+impl From<AllocError> for ReadErr {
+    ghost use Rattle.std.specs.Prelude.{◌≡◌};
+    ghost use Rattle.wse_disk.specs.declared.disk.ReadErr.TheVariants.{Memory};
+
+    ghost from_gives = { λ _ e. e ≡ Memory };
+
+    fn from(_: AllocError) -> ReadErr {
+        ReadErr::Memory
+    }
+}
+
+impl From<Memory> for ReadErr {
+    ghost use Rattle.std.specs.Prelude.{◌≡◌};
+    ghost use Rattle.wse_disk.specs.declared.disk.ReadErr.TheVariants.{Memory};
+
+    ghost from_gives = { λ _ e. e ≡ Memory };
+
+    fn from(_: Memory) -> ReadErr {
+        ReadErr::Memory
+    }
 }
 
 /// A folder tree on a disk. A disk may tell what it holds, as one in memory does; a real folder tells nothing, and the

@@ -1,5 +1,5 @@
 -- What the test of a list of segments says.
-use Rattle.std.proofs.Common.{◌≡◌, ℕ, ◌+◌, ◌<◌, ◌≤◌, Bool, true, false, cond, not, List, [], ◌∷◌, length, map, refl, ap, arith, get_or, Option, Some, None, nat_lt, sum_by, suc, String, string_bytes}
+use Rattle.std.proofs.Common.{◌≡◌, ℕ, ◌+◌, ◌<◌, ◌≤◌, Bool, true, false, cond, not, List, [], ◌∷◌, length, map, refl, ap, arith, get_or, Option, Some, None, sum_by, suc, String, string_bytes}
 use Rattle.std.specs.List.{AllByRecursion}
 use Rattle.std.proofs.lemmas.List.Elements.{All-from_recursion, All-weaker}
 use Rattle.std.specs.List.{AllZip, starts_with}
@@ -8,17 +8,15 @@ use Rattle.std.specs.Hash as fed
 use Rattle.std.specs.List.{flat_map}
 use Rattle.std.proofs.Common.{◌++◌}
 use Rattle.std.proofs.Common.{take, zero}
-use Rattle.wse_path.specs.Path.{Path, is_under, is_bad, bytes_of, refusal, refusal_within, text_of}
+use Rattle.wse_path.specs.Path.{is_under, is_bad, bytes_of, refusal, refusal_within, text_of}
 use Rattle.wse_path.specs.declared.path.PathRefused.TheVariants.{TooLong}
 use Rattle.std.proofs.Common.{sym, ◌∙◌, ◌&&◌, ◌-◌, length-append, append_assoc}
-use Rattle.std.specs.List.{join_with_byte}
 use Rattle.std.proofs.lemmas.Bool.{ne_eqb, le-ltb, lt-ltb}
 use Rattle.std.specs.declared.cmp.Ordering.{Ordering}
 use Rattle.std.specs.Ordering.{ordering_then}
 use Rattle.std.specs.Cmp.Lexicographic.{pointwise, slice_cmp}
 use Rattle.std.specs.List.{prefix_len, position, All}
 use Rattle.std.proofs.lemmas.Bool.Decides.{nat_tests}
-use Rattle.std.proofs.lemmas.Grind.{common_steps}
 use Rattle.std.proofs.lemmas.List.Sums.{sum_by-cons}
 use Rattle.std.proofs.lemmas.List.{take_more, map-append, length-take-le}
 

@@ -9,14 +9,14 @@ use Rattle.std.proofs.lemmas.Bool.{or_parts}
 use Rattle.wse_path.specs.Tree.{Entries, is_near, fits, is_folder, entry_above, file_above, content, is_present, HasRoom, IsTree}
 use Rattle.wse_path.specs.Path.{Path, is_under}
 use Rattle.std.specs.FinMap.Entries.{find-put, find-where_key, below_all, by_order}
-use Rattle.std.proofs.Common.{option_map, ◌++◌, ◌∙◌}
+use Rattle.std.proofs.Common.{option_map, ◌++◌, ◌∙◌, ◌≢◌}
 use Rattle.wse_path.proofs.EntryLemmas.{and_parts, less_so}
 use Rattle.std.proofs.lemmas.Bool.{le-ltb}
-use Rattle.std.proofs.Common.{◌⊎◌, inl, inr, ◌||◌, length, arith, ◌≤◌}
+use Rattle.std.proofs.Common.{◌⊎◌, inl, inr, ◌||◌, length, arith}
 use Rattle.std.proofs.Common.{[], ◌∷◌, ◌≡◌, ℕ, Bool, true, false, List, Option, None, subst, sym, refl, ap}
 use Rattle.std.specs.Prelude.{not}
 use lib.Dec.{T}
-use Rattle.std.specs.FinMap.{is_sorted, put}
+use Rattle.std.specs.FinMap.{is_sorted}
 use Rattle.std.specs.FinMap.Entries.{is_sorted-put, is_sorted-where_key}
 use Rattle.std.specs.Cmp.Lexicographic.{lists_total, nat_list_cmp_total}
 use Rattle.wse_path.specs.Order.{path_cmp}
@@ -210,3 +210,12 @@ content_of (f ∷ es) e rest s =
 -- no tree is smaller than one without files
 pub tree_none : IsTree []
 tree_none = record { rises = refl; apart = λ p q hp hq. cc }
+
+-- a put leaves the content of each other path
+pub content_put_other : (es : Entries) (k : Path) (v : List ℕ) (q : Path) → q ≢ k → content (put_file es k v) q ≡ content es q
+content_put_other es k v q ne =
+    find-put path_cmp (lists_total nat_list_cmp_total) q k v es
+    ∙ elim (eq_by_cmp path_cmp q k) as (λ b. eq_by_cmp path_cmp q k ≡ b → cond b (Some v) (find path_cmp q es) ≡ find path_cmp q es) [
+      | true ↦ λ t. absurd (ne (same_path q k t))
+      | false ↦ λ t. refl
+    ] refl

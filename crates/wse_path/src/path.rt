@@ -230,3 +230,6 @@ impl Hash for RelPath {
         self.segments.hash(state);
     }
 }
+
+#[cfg(test)]
+mod tests;

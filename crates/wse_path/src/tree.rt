@@ -196,3 +196,6 @@ fn is_near_path(path: &RelPath, other: &RelPath) -> bool
 {
     path.cmp(other).is_eq() || path.is_under(other) || other.is_under(path)
 }
+
+#[cfg(test)]
+mod tests;

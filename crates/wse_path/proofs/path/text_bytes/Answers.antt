@@ -1,4 +1,4 @@
-use Rattle.std.proofs.Common.{◌≡◌, length, sym, ◌∙◌, ap, sum_by, string_bytes, take, take_all, arith, ◌-◌, ◌+◌}
+use Rattle.std.proofs.Common.{length, sym, ◌∙◌, ap, sum_by, string_bytes, take_all, arith, ◌-◌, ◌+◌}
 use Rattle.wse_path.proofs.PathLemmas.{length-text_of}
 use Rattle.wse_path.proofs.path.text_bytes.Goals as goal
 

@@ -1,7 +1,5 @@
-use Rattle.std.proofs.Common.{◌<◌, arith, string_bytes, map, take, length}
-use Rattle.std.specs.Cmp.Lexicographic.{pointwise}
+use Rattle.std.proofs.Common.{◌<◌, arith, string_bytes, length}
 use Rattle.std.specs.Str.{bytes_eq}
-use Rattle.wse_path.specs.Path.{bytes_of}
 use Rattle.wse_path.proofs.PathLemmas.{under_is, starts_with_map, length_mapped}
 use Rattle.wse_path.proofs.path.RelPath.is_under.Goals as goal
 

@@ -1,7 +1,6 @@
-use Rattle.std.proofs.Common.{◌≡◌, ◌<◌, ◌≤◌, None, Some, sym, ◌∙◌, ap, string_bytes, arith, length, rules}
+use Rattle.std.proofs.Common.{◌≡◌, None, Some, sym, ◌∙◌, string_bytes, arith, length}
 use Rattle.std.proofs.lemmas.Bool.Decides.{nat_tests}
-use Rattle.std.proofs.lemmas.Grind.{common_steps}
-use Rattle.wse_path.specs.Path.{is_bad, bytes_of, refusal, refusal_within, text_of}
+use Rattle.wse_path.specs.Path.{is_bad, bytes_of, text_of}
 use Rattle.wse_path.proofs.PathLemmas.{position_map, all_short, refusal_at, too_long, not_too_long}
 use Rattle.wse_path.proofs.path.RelPath.new.Goals as goal
 

@@ -1,4 +1,4 @@
-use Rattle.std.proofs.Common.{◌≡◌, ℕ, ◌++◌, ◌∷◌, [], sym, ap, subst, ◌∙◌, string_bytes, String, Global, arith, ◌+◌, ◌<◌, get_or, take, length}
+use Rattle.std.proofs.Common.{◌≡◌, ◌++◌, ◌∷◌, [], sym, ap, ◌∙◌, string_bytes, String, Global, arith, ◌+◌, ◌<◌, get_or, take, length}
 use Rattle.wse_path.specs.Path.{bytes_of, text_of}
 use Rattle.wse_path.proofs.PathLemmas.{text_first, text_next}
 use Rattle.wse_path.proofs.path.RelPath.text.Goals as goal

@@ -1,0 +1,5 @@
+mod LineLemmas
+mod MemberLemmas
+mod UriLemmas
+mod BelowLemmas
+mod CreateLemmas
