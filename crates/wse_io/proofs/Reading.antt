@@ -1,0 +1,170 @@
+-- What a call of a reader took so far, and what it hands out then.
+use Rattle.std.proofs.Common.{◌≡◌, ◌≢◌, ◌⊎◌, inl, inr, ⊎_elim, ℕ, ◌+◌, ◌-◌, ◌<◌, ◌≤◌, true, false, List, [], ◌∷◌, ◌++◌, length, take, drop, Option, IfSome, Result, Ok, Err, refl, sym, ap, subst, ◌∙◌, append_assoc, arith, length-append, length-drop}
+use Rattle.std.proofs.lemmas.List.{append-nil}
+use Rattle.wse_io.specs.Stream.{Takes}
+use Rattle.wse_io.specs.Lines.{lines, Cuts}
+use Rattle.wse_io.specs.Reader.{Reader, is_over, IsAfter, IsSound, Fills, HandsOut, Given, Repeats, Hands}
+use Rattle.wse_io.specs.declared.lines.Ahead.{Ahead}
+use Rattle.wse_io.specs.declared.lines.Ahead.TheVariants.{Open, Over, Failed}
+use Rattle.wse_io.specs.declared.lines.Line.{Line}
+use Rattle.wse_io.specs.declared.lines.Line.TheVariants.{Text, End}
+use Rattle.wse_io.specs.declared.lines.LineFault.{LineFault}
+use Rattle.wse_io.specs.declared.lines.LineFault.TheVariants.{Read, InputLimit, Memory}
+use Rattle.wse_io.proofs.StreamLemmas.{takes_none, takes_more}
+use Rattle.wse_io.proofs.LineLemmas.{take-nil, take_split, NoEnd, EndsAt, lines-nil, lines_open, cuts_all, cuts_line, cuts_last}
+
+-- The bytes that were taken in the call are those before the reader as it is now.
+pub record SoFar (left_old left_now : Option (List ℕ)) (old now : Reader) (read : List ℕ) : Type 0 where
+  pub takes : Takes left_old left_now read
+  pub limit : now.max_input ≡ old.max_input
+  pub taken : now.taken ≡ old.taken + length read
+  pub held : now.ahead ≢ Failed Memory → now.held ≡ old.held ++ take (old.max_input - old.taken) read
+  pub settled : old.ahead ≢ Open → (read ≡ []) × (now ≡ old)
+  pub ready : lines old.held false ≢ [] → read ≡ []
+  pub ended : old.ahead ≡ Open → now.ahead ≡ Over → IfSome left_now (λ rest. rest ≡ [])
+
+-- How many turns may follow: each read takes a byte or ends the reading.
+abbrev pub turns : Ahead → ℕ → ℕ → ℕ
+turns Open limit taken = limit + 2 - taken
+turns ahead limit taken = 0
+
+held_all : (held : List ℕ) (n : ℕ) → held ++ take n [] ≡ held
+held_all held n = ap (λ l. held ++ l) (take-nil n) ∙ append-nil held
+
+pub so_far_none : (left : Option (List ℕ)) (r : Reader) → SoFar left left r r []
+so_far_none left r = record {
+  takes = takes_none left left refl;
+  limit = refl;
+  taken = omega arith;
+  held = λ _. sym (held_all r.held (r.max_input - r.taken));
+  settled = λ _. (refl, refl);
+  ready = λ _. refl;
+  ended = λ is over. let e = sym is ∙ over in cc;
+}
+
+-- A reader by its parts is the one that they are of.
+pub same_reader : (left_old left_now : Option (List ℕ)) (old now parts : Reader) (held read : List ℕ) → parts ≡ now → held ≡ parts.held → IsSound parts → SoFar left_old left_now old now read → SoFar left_old left_now old (record parts { held = held }) read × IsSound (record parts { held = held })
+same_reader left_old left_now old now parts held read same kept sound so =
+    let is : parts ≡ record parts { held = held } = ap (λ h. record parts { held = h }) (sym kept) in
+    (subst (λ r. SoFar left_old left_now old r read) (sym same ∙ is) so, subst IsSound is sound)
+
+after_within : (ahead : Ahead) (limit taken : ℕ) → IsAfter ahead limit taken → taken ≤ limit + 1
+after_within Open limit taken h = omega arith
+after_within Over limit taken h = omega arith
+after_within (Failed Read) limit taken h = omega arith
+after_within (Failed (InputLimit n)) limit taken h = let e = h.0 in omega arith
+after_within (Failed Memory) limit taken h = h
+
+repeats_line : (ahead : Ahead) (held : List ℕ) (result : Result Line LineFault) → lines held (is_over ahead) ≢ [] → Repeats ahead held result
+repeats_line Open held result some = tt
+repeats_line Over held result some = λ none. absurd (some none)
+repeats_line (Failed fault) held result some = λ none. absurd (some none)
+
+repeats_settled : (ahead : Ahead) (held : List ℕ) (result : Result Line LineFault) → (ahead ≢ Open → Repeats ahead held result) → Repeats ahead held result
+repeats_settled Open held result f = tt
+repeats_settled Over held result f = f (λ e. cc)
+repeats_settled (Failed fault) held result f = f (λ e. cc)
+
+none_or_some : (xs : List ℕ) → (xs ≡ []) ⊎ (0 < length xs)
+none_or_some [] = inl refl
+none_or_some (x ∷ xs) = inr (omega arith)
+
+module _ (left_old left_now : Option (List ℕ)) (old now : Reader) (read : List ℕ) (so : SoFar left_old left_now old now read) (sound : IsSound now) where
+  -- What was taken of the first bytes and not handed out when the call began.
+  abbrev bytes : List ℕ
+  bytes = old.held ++ take (old.max_input - old.taken) read
+
+  -- Something is read only where no line was held and nothing else was known when the call began.
+  pub needed : now.ahead ≡ Open → NoEnd now.held → (lines old.held false ≢ [] → ⊥) × (old.ahead ≢ Open → ⊥)
+  needed is none =
+      let room = old.max_input - old.taken in
+      let held : now.held ≡ old.held ++ take room read = so.held (λ m. let e = sym is ∙ m in cc) in (
+        λ some. some (ap (λ l. lines l false) (sym (held ∙ ap (λ r. old.held ++ take room r) (so.ready some) ∙ held_all old.held room)) ∙ lines_open now.held none),
+        λ known. known (sym (ap (λ (r : Reader). r.ahead) (so.settled known).1) ∙ is),
+      )
+
+  -- One read more, where no line is held.
+  pub so_far_more : (left_new : Option (List ℕ)) (new : Reader) (more : List ℕ) → now.ahead ≡ Open → NoEnd now.held → Fills left_now left_new now new more → SoFar left_old left_new old new (read ++ more)
+  so_far_more left_new new more is none f =
+      let room = old.max_input - old.taken in
+      let held : now.held ≡ old.held ++ take room read = so.held (λ m. let e = sym is ∙ m in cc) in
+      record {
+        takes = takes_more _ _ _ read more so.takes f.takes;
+        limit = f.limit ∙ so.limit;
+        taken = omega (arith, f.taken, so.taken, length-append read more);
+        held = λ kept.
+            f.held kept
+            ∙ ap (λ l. l ++ take (now.max_input - now.taken) more) held
+            ∙ append_assoc old.held (take room read) (take (now.max_input - now.taken) more)
+            ∙ ap (λ m. old.held ++ (take room read ++ take m more)) {x = now.max_input - now.taken} {y = room - length read} (omega (arith, so.limit, so.taken))
+            ∙ ap (λ l. old.held ++ l) (sym (take_split room read more));
+        settled = λ known. absurd ((needed is none).1 known);
+        ready = λ some. absurd ((needed is none).0 some);
+        ended = λ _ over. f.ended over;
+      }
+
+  -- What is answered now, where the reader changes no more than the handing out of a line or want of memory changes.
+  hands_of : (new : Reader) (result : Result Line LineFault) → new.max_input ≡ now.max_input → new.taken ≡ now.taken → (new.ahead ≡ now.ahead) ⊎ ((result ≡ Err Memory) × (new.ahead ≡ Failed Memory))
+      → Given result bytes new → Repeats now.ahead now.held result → Hands left_old left_now old new read result
+  hands_of new result limit taken ahead given repeats =
+      let most : new.taken ≤ old.max_input + 1 = omega (arith, after_within now.ahead now.max_input now.taken sound.after, taken, so.limit) in
+      let after : IsAfter now.ahead old.max_input new.taken =
+      subst (λ t. IsAfter now.ahead old.max_input t) (sym taken) (subst (λ m. IsAfter now.ahead m now.taken) so.limit sound.after) in
+      record {
+        takes = so.takes;
+        limit = limit ∙ so.limit;
+        taken = taken ∙ so.taken;
+        within = most;
+        after = ⊎_elim (λ same. subst (λ a. IsAfter a old.max_input new.taken) (sym same) after) (λ starved. subst (λ a. IsAfter a old.max_input new.taken) (sym starved.1) most) ahead;
+        settled = λ known. let same = so.settled known in (same.0, ⊎_elim (λ kept. inl (kept ∙ ap (λ (r : Reader). r.ahead) same.1)) (λ starved. inr starved.0) ahead);
+        ready = so.ready;
+        ended = λ is over. ⊎_elim (λ same. so.ended is (sym same ∙ over)) (λ starved. let e = sym over ∙ starved.1 in cc) ahead;
+        given = given;
+        repeats = repeats_settled old.ahead old.held result (λ known. subst (λ (r : Reader). Repeats r.ahead r.held result) (so.settled known).1 repeats);
+      }
+
+  -- A line is taken off what is held.
+  hands_cut : (new : Reader) (line rest : List ℕ) (result : Result Line LineFault) → Cuts now.held (line ∷ []) rest (is_over now.ahead) → length rest < length now.held → HandsOut line rest now new result → Hands left_old left_now old new read result
+  hands_cut new line rest (Ok handed) cuts shorter out =
+      let held : now.held ≡ bytes = so.held (λ m. let none = sound.dropped m in omega (arith, shorter, ap length none)) in
+      let some : lines now.held (is_over now.ahead) ≢ [] = λ none. let e = cuts_all now.held rest (line ∷ []) (is_over now.ahead) cuts in cc in
+      let given : Given (Ok (Text line)) bytes (record now { held = rest }) = (subst (λ b. Cuts b (line ∷ []) rest (is_over now.ahead)) held cuts, omega (arith, shorter, ap length held)) in
+      hands_of new (Ok handed) (ap (λ (r : Reader). r.max_input) out.1) (ap (λ (r : Reader). r.taken) out.1) (inl (ap (λ (r : Reader). r.ahead) out.1))
+      (subst (λ h. Given (Ok h) bytes new) (sym out.0) (subst (λ r. Given (Ok (Text line)) bytes r) (sym out.1) given))
+      (repeats_line now.ahead now.held (Ok handed) some)
+  hands_cut new line rest (Err fault) cuts shorter out =
+      let some : lines now.held (is_over now.ahead) ≢ [] = λ none. let e = cuts_all now.held rest (line ∷ []) (is_over now.ahead) cuts in cc in
+      hands_of new (Err fault) (ap (λ (r : Reader). r.max_input) out.1) (ap (λ (r : Reader). r.taken) out.1) (inr (ap (λ f. Err f) out.0, ap (λ (r : Reader). r.ahead) out.1))
+      (subst (λ f. Given (Err f) bytes new) (sym out.0) (ap (λ (r : Reader). r.ahead) out.1, ap (λ (r : Reader). r.held) out.1))
+      (repeats_line now.ahead now.held (Err fault) some)
+
+  -- A line with its end is held.
+  pub hands_line : (new : Reader) (end : ℕ) (result : Result Line LineFault) → EndsAt now.held end → HandsOut (take end now.held) (drop (end + 1) now.held) now new result → Hands left_old left_now old new read result
+  hands_line new end result at out =
+      let line = take end now.held in
+      let rest = drop (end + 1) now.held in
+      hands_cut new line rest result (subst (λ b. Cuts b (line ∷ []) rest (is_over now.ahead)) (sym at.cut) (cuts_line line rest (is_over now.ahead) at.none)) (omega (arith, at.within, length-drop (end + 1) now.held)) out
+
+  -- The input is over, and no line end is held.
+  pub hands_last : (new : Reader) (result : Result Line LineFault) → now.ahead ≡ Over → NoEnd now.held → (now.held ≡ [] → (result ≡ Ok End) × (new ≡ now)) → (0 < length now.held → HandsOut now.held [] now new result) → Hands left_old left_now old new read result
+  hands_last new result over none nothing some =
+      let held : now.held ≡ bytes = so.held (λ m. let e = sym over ∙ m in cc) in
+      ⊎_elim
+      (λ empty.
+      let end = nothing empty in
+      let given : Given (Ok End) bytes now = (over, held, ap (λ l. lines l true) (sym held ∙ empty) ∙ lines-nil true) in
+      hands_of new result (ap (λ (r : Reader). r.max_input) end.1) (ap (λ (r : Reader). r.taken) end.1) (inl (ap (λ (r : Reader). r.ahead) end.1))
+      (subst (λ r. Given r bytes new) (sym end.0) (subst (λ r. Given (Ok End) bytes r) (sym end.1) given))
+      (subst (λ a. Repeats a now.held result) (sym over) (λ _. end.0)))
+      (λ bytes_left.
+      hands_cut new now.held [] result (subst (λ a. Cuts now.held (now.held ∷ []) [] (is_over a)) (sym over) (cuts_last now.held none bytes_left)) bytes_left (some bytes_left))
+      (none_or_some now.held)
+
+  given_fault : (fault : LineFault) → now.ahead ≡ Failed fault → NoEnd now.held → Given (Err fault) bytes now
+  given_fault Memory is none = (is, sound.dropped is)
+  given_fault Read is none = let held = so.held (λ m. let e = sym is ∙ m in cc) in (is, held, ap (λ l. lines l false) (sym held) ∙ lines_open now.held none)
+  given_fault (InputLimit n) is none = let held = so.held (λ m. let e = sym is ∙ m in cc) in (is, held, ap (λ l. lines l false) (sym held) ∙ lines_open now.held none)
+
+  -- A fault is known, and no line end is held.
+  pub hands_fault : (fault : LineFault) → now.ahead ≡ Failed fault → NoEnd now.held → Hands left_old left_now old now read (Err fault)
+  hands_fault fault is none = hands_of now (Err fault) refl refl (inl refl) (given_fault fault is none) (subst (λ a. Repeats a now.held (Err fault)) (sym is) (λ _. refl))

@@ -1,0 +1,68 @@
+use Rattle.std.proofs.Common.{[], ◌++◌, ◌∙◌, sym, position, refl, ap, inl, inr, arith}
+use Rattle.wse_io.specs.Lines.{is_line_end}
+use Rattle.wse_io.specs.Reader.{Reader}
+use Rattle.wse_io.proofs.LineLemmas.{ends_at, no_end_from}
+use Rattle.wse_io.proofs.Reading.{so_far_none, so_far_more, needed, same_reader, hands_line, hands_last, hands_fault}
+use Rattle.wse_io.proofs.lines.Lines.next.Goals as goal
+
+pub loop-end-init : goal.loop-end-init
+loop-end-init g c = record {
+  so_far = ([], so_far_none _ _);
+  ready = λ _. refl;
+  settled = λ _. refl;
+  later = omega arith;
+  cause = λ failed. inl failed;
+}
+
+-- a line end is held
+pub returns-in-Some-clause-hands : goal.returns-in-Some-clause-hands
+returns-in-Some-clause-hands g c =
+    let inside = c.self.inside in
+    let found = c.line_end.ensures in
+    let so = c.loop-end.invariant.so_far in
+    let parts : Reader = record { max_input = inside.max_input; taken = inside.taken; held = inside.held; ahead = inside.ahead } in
+    let now = same_reader _ _ _ _ parts c.line_end.new.self so.0 c.self.view_is found.same c.self.invariant so.1 in
+    let at = ends_at c.line_end.new.self c.in-Some.end (ap (position is_line_end) found.same ∙ sym found.place ∙ c.in-Some.is) in
+    (so.0, hands_line _ _ _ _ so.0 now.0 now.1 c.hand_out.new.self c.in-Some.end c.hand_out.result at c.hand_out.ensures)
+
+-- one read more
+pub loop-end-preserved : goal.loop-end-preserved
+loop-end-preserved g c =
+    let inside = c.self.inside in
+    let found = c.line_end.ensures in
+    let inv = c.loop-end.invariant in
+    let so = inv.so_far in
+    let fills = c.fill.ensures.fills in
+    let parts : Reader = record { max_input = inside.max_input; taken = inside.taken; held = inside.held; ahead = inside.ahead } in
+    let now = same_reader _ _ _ _ parts c.line_end.new.self so.0 c.self.view_is found.same c.self.invariant so.1 in
+    let none = no_end_from c.line_end.new.self (ap (position is_line_end) found.same ∙ sym found.place ∙ c.in_default.is) in
+    let need = needed _ _ _ _ so.0 now.0 now.1 c.in-Open.is none in
+    record {
+      so_far = (so.0 ++ fills.0, so_far_more _ _ _ _ so.0 now.0 now.1 _ c.fill.new.self fills.0 c.in-Open.is none fills.1);
+      ready = λ some. absurd (need.0 some);
+      settled = λ known. absurd (need.1 known);
+      later = omega (arith, inv.later, c.fill.ensures.later);
+      cause = λ failed. let rose = c.fill.ensures.cause failed in inr (omega (arith, inv.later, rose));
+    }
+
+-- the input is over
+pub returns-in-Over-clause-hands : goal.returns-in-Over-clause-hands
+returns-in-Over-clause-hands g c =
+    let inside = c.self.inside in
+    let found = c.line_end.ensures in
+    let so = c.loop-end.invariant.so_far in
+    let parts : Reader = record { max_input = inside.max_input; taken = inside.taken; held = inside.held; ahead = inside.ahead } in
+    let now = same_reader _ _ _ _ parts c.line_end.new.self so.0 c.self.view_is found.same c.self.invariant so.1 in
+    let none = no_end_from c.line_end.new.self (ap (position is_line_end) found.same ∙ sym found.place ∙ c.in_default.is) in
+    (so.0, hands_last _ _ _ _ so.0 now.0 now.1 c.last.new.self c.last.result c.in-Over.is none c.last.ensures.none c.last.ensures.some)
+
+-- a fault is known
+pub returns-in-Failed-clause-hands : goal.returns-in-Failed-clause-hands
+returns-in-Failed-clause-hands g c =
+    let inside = c.self.inside in
+    let found = c.line_end.ensures in
+    let so = c.loop-end.invariant.so_far in
+    let parts : Reader = record { max_input = inside.max_input; taken = inside.taken; held = inside.held; ahead = inside.ahead } in
+    let now = same_reader _ _ _ _ parts c.line_end.new.self so.0 c.self.view_is found.same c.self.invariant so.1 in
+    let none = no_end_from c.line_end.new.self (ap (position is_line_end) found.same ∙ sym found.place ∙ c.in_default.is) in
+    (so.0, hands_fault _ _ _ _ so.0 now.0 now.1 c.in-Failed.fault c.in-Failed.is none)

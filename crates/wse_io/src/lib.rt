@@ -1,0 +1,17 @@
+// What is read from and written to, and the lines that are read.
+#![tactic(auto)]
+
+mod adapter;
+mod held;
+mod lines;
+mod mem;
+mod sink;
+mod source;
+#[cfg(test)]
+mod tests;
+
+pub use adapter::{ReaderSource, WriterSink};
+pub use lines::{Line, LineFault, Lines};
+pub use mem::{MemSink, MemSource};
+pub use sink::{Sink, WriteFailed, emit_all};
+pub use source::{ReadFailed, Source};

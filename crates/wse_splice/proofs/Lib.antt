@@ -1,0 +1,3 @@
+pub mod PlaceLemmas
+pub mod SpliceLemmas
+pub mod OrderLemmas

@@ -1,0 +1,38 @@
+// Ranges of a text and what stands in their place.
+ghost use Rattle.std.specs.Prelude.{◌≡◌, length, IfOk};
+ghost use Rattle.wse_splice.specs.Splice.{Fits, spliced};
+
+use std::alloc::Global;
+use wse_path::{Bytes, Items, Memory, Text};
+
+/// A text in place of the bytes from `start` up to `end`, both counted from the start of the old text. Where they are
+/// equal it is an insert.
+#[derive(Debug, Drop)]
+pub struct Splice {
+    pub start: usize,
+    pub end: usize,
+    pub text: Text,
+}
+
+/// Splices of one text, in the order of their places.
+pub type Splices = Items<Splice>;
+
+/// The text after the splices, all of which speak of the text before. Inserts at one place appear in the order of the
+/// list. It takes the time of the text before and of the texts put in.
+pub fn apply(alloc: Global, text: &[u8], splices: &[Splice]) -> Result<Bytes, Memory>
+    requires { Fits splices.now (length text.now) }
+    ensures { IfOk result (λ after. after ≡ spliced text.now splices.now) }
+{
+    let mut after = Vec::new(alloc);
+    let mut done = 0;
+    for splice in splices {
+        after.extend_from_slice(&text[done..splice.start])?;
+        after.extend_from_slice(splice.text.as_str().as_bytes())?;
+        done = splice.end;
+    }
+    after.extend_from_slice(&text[done..])?;
+    Ok(Bytes::new(after))
+}
+
+#[cfg(test)]
+mod tests;

@@ -1,0 +1,11 @@
+// Texts, and where positions lie in them.
+#![tactic(auto)]
+
+mod place;
+mod utf8;
+
+pub use place::{Inside, offset};
+pub use utf8::{NotText, as_text};
+
+#[cfg(test)]
+mod tests;
