@@ -1,0 +1,37 @@
+// Why edits are refused.
+use std::alloc::AllocFailed;
+use wse_path::Memory;
+
+/// Why edits of a text can't be made. Edits are numbered as the list is, from 0, skipped ones too.
+#[derive(Debug, Clone, Copy, PartialEq, Eq)]
+pub enum EditsRefused {
+    /// The first edit of which a position lies inside a code point, and where that code point starts, in bytes. Its
+    /// start is looked at before its end.
+    Inside { edit: u64, char_start: usize },
+    /// The first two edits that don't fit: no pair has a lower `second`, and none with this `second` a lower `first`.
+    Overlap { first: u64, second: u64 },
+    /// There was no memory for the splices.
+    Memory,
+}
+
+impl From<Memory> for EditsRefused {
+    ghost use Rattle.std.specs.Prelude.{◌≡◌};
+    ghost use Rattle.wse_edits.specs.declared.refused.EditsRefused.TheVariants.{Memory};
+
+    ghost from_gives = { λ _ why. why ≡ Memory };
+
+    fn from(_: Memory) -> EditsRefused {
+        EditsRefused::Memory
+    }
+}
+
+impl<T: Drop> From<AllocFailed<T>> for EditsRefused {
+    ghost use Rattle.std.specs.Prelude.{◌≡◌};
+    ghost use Rattle.wse_edits.specs.declared.refused.EditsRefused.TheVariants.{Memory};
+
+    ghost from_gives = { λ _ why. why ≡ Memory };
+
+    fn from(_: AllocFailed<T>) -> EditsRefused {
+        EditsRefused::Memory
+    }
+}

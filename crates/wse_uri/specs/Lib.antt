@@ -1,0 +1,4 @@
+pub mod FileUrl
+pub mod Segments
+pub mod Reading
+pub mod Writing

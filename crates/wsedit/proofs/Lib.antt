@@ -1,0 +1,10 @@
+pub mod Answering
+pub mod CauseLemmas
+pub mod Ending
+pub mod Reading
+pub mod RunLemmas
+pub mod SessionLemmas
+pub mod Starting
+pub mod StatusLemmas
+pub mod Transcript
+pub mod WordLemmas

@@ -1,0 +1,193 @@
+// Lines in, answers out.
+ghost use Rattle.std.specs.Prelude.{◌≡◌, ◌^◌, ◌+◌, ◌<◌, ◌≤◌, ◌∷◌, [], List, ℕ, Bool, IfOk, IfErr, OnOk};
+ghost use Rattle.wse_io.specs.Stream.{Piece, Adds, bytes_of};
+ghost use Rattle.wsedit.specs.Machine.{reply, after, transcript};
+ghost use Rattle.wsedit.specs.Session.{state_of, StandsFor, disk_after, stopped_disk, StepCause};
+ghost use Rattle.wsedit.specs.Run.{LeavesBehind, Ran, Runs, one_disk, fault_disk, IsDiskFault, fault_of, OneCause, end_of_lines, end_of_one, EndCause};
+
+use crate::reply::{Reply, reply_text};
+use crate::session::{Session, Stopped};
+use std::alloc::Global;
+use wse_disk::Disk;
+use wse_io::{Line, LineFault, Lines, Sink, Source, WriteFailed, emit_all};
+use wse_json::{CreateRefused, read_create};
+use wse_path::Memory;
+
+/// Why a line wasn't answered. The disk is handed back.
+pub enum ServeFault<D: Disk> {
+    /// The sink failed.
+    Write(D),
+    /// The disk failed.
+    Disk(D),
+    /// There was no memory.
+    Memory(D),
+}
+
+/// How serving ended.
+#[derive(Debug, Clone, Copy, PartialEq, Eq)]
+pub enum ServeEnd {
+    /// The source was read to its end, and every line was answered.
+    Done,
+    /// The source failed.
+    Read,
+    /// The sink failed.
+    Write,
+    /// The disk failed.
+    Disk,
+    /// There was no memory.
+    Memory,
+    /// The source gave one byte past the limit.
+    InputLimit { taken: u64 },
+}
+
+/// The disk after serving, and how serving ended.
+pub struct Served<D: Disk> {
+    pub disk: D,
+    pub end: ServeEnd,
+}
+
+/// Does what a line says.
+#[tactic(auto, unfolding(crate::specs::Machine::after, crate::specs::Machine::reply))]
+fn perform<D: Disk>(
+    alloc: Global,
+    session: Session<D>,
+    root: &str,
+    line: &[u8],
+) -> Result<(Session<D>, Reply), Stopped<D>>
+    requires agrees { D.tells → StandsFor (D.stands session.disk) (state_of session) }
+    requires countable { session.done + 1 < 2 ^ 64 }
+    ensures step { IfOk result (λ x. (state_of x.0 ≡ after root.now (state_of session) line.now)
+        × (x.1 ≡ reply root.now (state_of session) line.now)) }
+    ensures agrees { D.tells → IfOk result (λ x. StandsFor (D.stands x.0.disk) (state_of x.0)) }
+    ensures left { D.tells → IfErr result (LeavesBehind D.stands root.now (state_of session) line.now) }
+    ensures later { D.moment_of session.disk ≤ D.moment_of (disk_after result) }
+    ensures cause { StepCause D.faults session.disk result }
+{
+    match read_create(alloc, root, line) {
+        Ok(path) => session.create(alloc, path),
+        Err(CreateRefused::NotJson) => Ok((session, Reply::NotJson)),
+        Err(CreateRefused::NotBuilt) => Ok((session, Reply::NotBuilt)),
+        Err(CreateRefused::Memory) => Err(Stopped::Memory(session.into_disk())),
+    }
+}
+
+fn into_fault<D: Disk>(stopped: Stopped<D>) -> ServeFault<D>
+    ensures fault { result ≡ fault_of stopped }
+    ensures disk { fault_disk result ≡ stopped_disk stopped }
+{
+    match stopped {
+        Stopped::Disk(disk) => ServeFault::Disk(disk),
+        Stopped::Memory(disk) => ServeFault::Memory(disk),
+    }
+}
+
+/// Does what a line says, and emits its answer.
+fn serve_one<K: Sink, D: Disk>(
+    alloc: Global,
+    session: Session<D>,
+    root: &str,
+    n: u64,
+    line: &[u8],
+    out: &mut K,
+) -> Result<Session<D>, ServeFault<D>>
+    requires agrees { D.tells → StandsFor (D.stands session.disk) (state_of session) }
+    requires countable { session.done + 1 < 2 ^ 64 }
+    ensures run { (added : List Piece) × Adds (K.pieces out.old) (K.pieces out.new) added
+        × Ran D.tells (IsDiskFault result) (D.moment_of session.disk) (D.moment_of (one_disk result))
+        (D.stands (one_disk result)) root.now n (state_of session) (line.now ∷ []) added
+        × OnOk result (bytes_of added ≡ transcript root.now n (state_of session) (line.now ∷ [])) }
+    ensures next { IfOk result (λ next. state_of next ≡ after root.now (state_of session) line.now) }
+    ensures agrees { D.tells → IfOk result (λ next. StandsFor (D.stands next.disk) (state_of next)) }
+    ensures cause { OneCause D.faults session.disk (K.faults out.old) (K.faults out.new) result }
+{
+    let (session, reply) = match perform(alloc, session, root, line) {
+        Ok(performed) => performed,
+        Err(stopped) => return Err(into_fault(stopped)),
+    };
+    let text = match reply_text(alloc, n, &reply) {
+        Ok(text) => text,
+        Err(Memory) => return Err(ServeFault::Memory(session.into_disk())),
+    };
+    match emit_all(out, &session.disk, text.as_slice()) {
+        Ok(()) => Ok(session),
+        Err(WriteFailed) => Err(ServeFault::Write(session.into_disk())),
+    }
+}
+
+impl<D: Disk> ServeFault<D> {
+    fn into_served(self) -> Served<D>
+        ensures end { result.end ≡ end_of_one self }
+        ensures disk { result.disk ≡ fault_disk self }
+    {
+        match self {
+            ServeFault::Write(disk) => Served {
+                disk,
+                end: ServeEnd::Write,
+            },
+            ServeFault::Disk(disk) => Served {
+                disk,
+                end: ServeEnd::Disk,
+            },
+            ServeFault::Memory(disk) => Served {
+                disk,
+                end: ServeEnd::Memory,
+            },
+        }
+    }
+}
+
+fn end_of(fault: LineFault) -> ServeEnd
+    ensures { result ≡ end_of_lines fault }
+{
+    match fault {
+        LineFault::Read => ServeEnd::Read,
+        LineFault::InputLimit { taken } => ServeEnd::InputLimit { taken },
+        LineFault::Memory => ServeEnd::Memory,
+    }
+}
+
+/// Answers the lines of the source, to its end or to the first fault. At most `max_input` bytes are read as lines.
+pub fn serve<S: Source, K: Sink, D: Disk>(
+    alloc: Global,
+    session: Session<D>,
+    root: &str,
+    source: &mut S,
+    out: &mut K,
+    max_input: u64,
+) -> Served<D>
+    requires some { 1 ≤ max_input }
+    requires countable { max_input ≤ 2 ^ 62 }
+    requires first { session.done ≡ 0 }
+    requires agrees { D.tells → StandsFor (D.stands session.disk) (state_of session) }
+    ensures run { (taken : List ℕ) × (over : Bool) × (added : List Piece) ×
+        Runs D.tells D.stands D.moment_of session.disk result root.now (state_of session) max_input
+        (S.left source.old) (S.left source.new) (K.pieces out.old) (K.pieces out.new) taken over added }
+    ensures causes { EndCause result.end (S.faults source.old) (S.faults source.new) (K.faults out.old)
+        (K.faults out.new) (D.faults session.disk) (D.faults result.disk) }
+{
+    let mut lines = Lines::new(alloc, usize::MAX, max_input);
+    let mut session = session;
+    let mut n = 1;
+    loop {
+        let line = match lines.next(source) {
+            Ok(Line::Text(line)) => line,
+            Ok(Line::End) => {
+                return Served {
+                    disk: session.into_disk(),
+                    end: ServeEnd::Done,
+                };
+            }
+            Err(fault) => {
+                return Served {
+                    disk: session.into_disk(),
+                    end: end_of(fault),
+                };
+            }
+        };
+        session = match serve_one(alloc, session, root, n, line.as_slice(), out) {
+            Ok(session) => session,
+            Err(fault) => return fault.into_served(),
+        };
+        n += 1;
+    }
+}

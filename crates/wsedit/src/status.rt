@@ -1,0 +1,99 @@
+// How a run ends, as a status and as a line for people.
+ghost use Rattle.std.specs.Prelude.{◌≡◌, List, OnOk};
+ghost use Rattle.wse_path.specs.Causes.{HasCause};
+ghost use Rattle.wse_io.specs.Stream.{Piece, Adds, IsPrefix, bytes_of};
+ghost use Rattle.wsedit.specs.Status.{code_of, status_of, line_of, limit_line};
+
+use crate::serve::ServeEnd;
+use itoa::Buffer;
+use wse_disk::Disk;
+use wse_io::{Sink, WriteFailed, emit_all};
+
+/// How a run ended.
+#[derive(Debug, Clone, Copy, PartialEq, Eq)]
+pub enum Status {
+    /// All was done.
+    Done,
+    /// The words weren't understood.
+    Words,
+    /// The source failed.
+    Read,
+    /// The sink of the answers failed.
+    Write,
+    /// The disk failed.
+    Disk,
+    /// There was no memory.
+    Memory,
+    /// The input was longer than its limit.
+    InputLimit,
+}
+
+impl Status {
+    /// The number with which the program ends.
+    pub fn code(self) -> u8
+        ensures { result ≡ code_of self }
+    {
+        match self {
+            Status::Done => 0,
+            Status::Words => 2,
+            Status::Read => 3,
+            Status::Write => 4,
+            Status::Disk => 5,
+            Status::Memory => 6,
+            Status::InputLimit => 9,
+        }
+    }
+
+    /// The status for an end of serving.
+    pub fn of(end: ServeEnd) -> Status
+        ensures { result ≡ status_of end }
+    {
+        match end {
+            ServeEnd::Done => Status::Done,
+            ServeEnd::Read => Status::Read,
+            ServeEnd::Write => Status::Write,
+            ServeEnd::Disk => Status::Disk,
+            ServeEnd::Memory => Status::Memory,
+            ServeEnd::InputLimit { .. } => Status::InputLimit,
+        }
+    }
+
+    /// Emits the line that tells people of the status, none at Done. Takes no memory.
+    pub fn tell<E: Sink, D: Disk>(
+        self,
+        errs: &mut E,
+        disk: &D,
+        max_input: u64,
+    ) -> Result<(), WriteFailed>
+        ensures told { (told : List Piece) × Adds (E.pieces errs.old) (E.pieces errs.new) told
+            × IsPrefix (bytes_of told) (line_of max_input self)
+            × OnOk result (bytes_of told ≡ line_of max_input self) }
+        ensures cause { HasCause (E.faults errs.old) (E.faults errs.new) result }
+    {
+        match self {
+            Status::Done => emit_all(errs, disk, b""),
+            Status::Words => emit_all(errs, disk, b"wsedit: words not understood\n"),
+            Status::Read => emit_all(errs, disk, b"wsedit: reading failed\n"),
+            Status::Write => emit_all(errs, disk, b"wsedit: writing failed\n"),
+            Status::Disk => emit_all(errs, disk, b"wsedit: disk failed\n"),
+            Status::Memory => emit_all(errs, disk, b"wsedit: out of memory\n"),
+            Status::InputLimit => tell_limit(errs, disk, max_input),
+        }
+    }
+}
+
+fn tell_limit<E: Sink, D: Disk>(errs: &mut E, disk: &D, max_input: u64) -> Result<(), WriteFailed>
+    ensures told { (told : List Piece) × Adds (E.pieces errs.old) (E.pieces errs.new) told
+        × IsPrefix (bytes_of told) (limit_line max_input)
+        × OnOk result (bytes_of told ≡ limit_line max_input) }
+    ensures cause { HasCause (E.faults errs.old) (E.faults errs.new) result }
+{
+    let mut buffer = Buffer::new();
+    let Ok(()) = emit_all(errs, disk, b"wsedit: input past ") else {
+        return Err(WriteFailed);
+    };
+    let Ok(()) = emit_all(errs, disk, buffer.format(max_input).as_bytes()) else {
+        return Err(WriteFailed);
+    };
+    emit_all(errs, disk, b" bytes\n")
+}
