@@ -1,5 +1,5 @@
 // Edits of a text as splices that fit it.
-ghost use Rattle.std.specs.Prelude.{◌≡◌, ◌⊎◌, ◌≤◌, length, zip, filter_map, IfOk, IfErr, OnOk, OnErr};
+ghost use Rattle.std.specs.Prelude.{◌≡◌, ◌⊎◌, length, zip, filter_map, IfOk, IfErr, OnOk};
 ghost use Rattle.std.specs.List.Sorted.{IsPermutation, IsSortedByKey, IsStableByKey};
 ghost use Rattle.std.specs.Ordering.{nat_cmp};
 ghost use Rattle.wse_splice.specs.Splice.{Fits, spliced};
@@ -16,7 +16,8 @@ use wse_splice::{Splice, Splices};
 /// The edits as splices of the text before them, sorted by start, equal starts in the order of the list. Skipped edits
 /// are passed over. `apply` of the splices is the text after the edits (LSP 3.17, "TextEdit[]").
 ///
-/// It sorts; only where two edits overlap does it go through the pairs, to name the first.
+/// It finds each position by a pass over the text, and sorts. Only where two edits overlap does it go through the pairs,
+/// to name the first.
 pub fn resolve(
     alloc: Global,
     text: &str,

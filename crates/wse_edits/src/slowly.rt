@@ -6,8 +6,8 @@ use crate::range::live_range;
 use std::alloc::Global;
 use wse_path::{Bytes, Encoding, Memory, TextEdit};
 
-/// The text after edits that aren't refused, slowly: at each place it looks at every edit. Skipped edits are passed
-/// over.
+/// The text after edits that `resolve` doesn't refuse, slowly: at each place it looks at every edit. Skipped edits are
+/// passed over.
 pub fn edited_slowly(
     alloc: Global,
     text: &str,
