@@ -1,7 +1,8 @@
 -- A key's place in a list of entries whose keys rise, and what an edit there does.
-use Rattle.std.proofs.Common.{◌≡◌, ℕ, zero, suc, ◌+◌, ◌<◌, ◌≤◌, Bool, true, false, ◌&&◌, cond, not, List, [], ◌∷◌, length, get_or, set, Some, None, Result, Ok, Err, IfOk, IfErr, refl, sym, ◌∙◌, ap, subst, arith}
+use Rattle.std.proofs.Common.{◌≡◌, ℕ, zero, suc, ◌+◌, ◌<◌, ◌≤◌, Bool, true, false, ◌&&◌, cond, not, List, [], ◌∷◌, length, get_or, set, drop, Some, None, Result, Ok, Err, IfOk, IfErr, refl, sym, ◌∙◌, ap, subst, arith}
 use Rattle.std.specs.FinMap.{find, put, is_sorted}
-use Rattle.std.specs.FinMap.Entries.{where_key, below_all, by_order}
+use Rattle.std.specs.FinMap.Entries.{where_key, below_all, by_order, is_sorted-put, is_sorted-where_key}
+use lib.Dec.{T}
 use Rattle.std.specs.List.{insert, remove}
 use Rattle.std.specs.List.Sorted.{IsBinarySearchResult, IsSearchInRange, IsSortedBy}
 use Rattle.std.specs.declared.cmp.Ordering.{Ordering}
@@ -16,10 +17,22 @@ pub and_parts : (a b : Bool) → (a && b) ≡ true → (a ≡ true) × (b ≡ tr
 and_parts true b h = (refl, h)
 and_parts false b h = (h, cc)
 
+pub so : (b : Bool) → T b → b ≡ true
+so true h = refl
+so false h = absurd h
+
+pub to_so : (b : Bool) → b ≡ true → T b
+to_so b h = subst T (sym h) tt
+
 pub less_so : (r : Ordering) → is_lt r ≡ true → r ≡ Less
 less_so Less h = refl
 less_so Equal h = cc
 less_so Greater h = cc
+
+pub equal_so : (r : Ordering) → is_eq r ≡ true → r ≡ Equal
+equal_so Less h = cc
+equal_so Equal h = refl
+equal_so Greater h = cc
 
 module _ {K : Type 0} {R : K → K → Ordering} (o : IsTotalOrder R) where
   -- an entry below a key that ties with k is below k
@@ -31,7 +44,7 @@ module _ {K : Type 0} {R : K → K → Ordering} (o : IsTotalOrder R) where
 
 module _ {K X : Type 0} {R : K → K → Ordering} (o : IsTotalOrder R) where
   -- the key of each entry is above x
-  below_at : (x : K) (es : List (K × X)) (i : ℕ) (d : K × X) → below_all R x es ≡ true → i < length es → R x (get_or es i d).0 ≡ Less
+  pub below_at : (x : K) (es : List (K × X)) (i : ℕ) (d : K × X) → below_all R x es ≡ true → i < length es → R x (get_or es i d).0 ≡ Less
   below_at x [] i d h l = absurd (omega arith)
   below_at x (e ∷ es) zero d h l = less_so (R x e.0) (and_parts (is_lt (R x e.0)) (below_all R x es) h).0
   below_at x (e ∷ es) (suc i) d h l = below_at x es i d (and_parts (is_lt (R x e.0)) (below_all R x es) h).1 (omega arith)
@@ -55,14 +68,14 @@ module _ {K X : Type 0} {R : K → K → Ordering} (o : IsTotalOrder R) where
       ∙ ap (λ t. e ∷ t) (put_at es k v i d parts.1 l' t)
 
   -- what follows the first entry has the gap one place lower
-  gap_tail : (e : K × X) (es : List (K × X)) (k : K) (i : ℕ) → IsGapAt R (e ∷ es) k (suc i) → IsGapAt R es k i
+  pub gap_tail : (e : K × X) (es : List (K × X)) (k : K) (i : ℕ) → IsGapAt R (e ∷ es) k (suc i) → IsGapAt R es k i
   gap_tail e es k i g = record {
     within = let w : suc i ≤ suc (length es) = g.within in omega arith;
     smaller = λ j d l. g.smaller (suc j) d (omega arith);
     greater = λ j d l h. g.greater (suc j) d (omega arith) (let h' : j < length es = h in omega arith);
   }
 
-  gap_tail_zero : (e : K × X) (es : List (K × X)) (k : K) → IsGapAt R (e ∷ es) k 0 → IsGapAt R es k 0
+  pub gap_tail_zero : (e : K × X) (es : List (K × X)) (k : K) → IsGapAt R (e ∷ es) k 0 → IsGapAt R es k 0
   gap_tail_zero e es k g = record {
     within = omega arith;
     smaller = λ j d l. absurd (omega arith);
@@ -136,3 +149,47 @@ module _ {K X : Type 0} {R : K → K → Ordering} (o : IsTotalOrder R) where
   remove_gap (e ∷ es) k (suc i) g =
       ap (λ r. cond (not (is_eq r)) (e ∷ where_key R (λ x. not (eq_by_cmp R k x)) es) (where_key R (λ x. not (eq_by_cmp R k x)) es)) (turned o e.0 k Less (g.smaller 0 e (omega arith)))
       ∙ ap (λ t. e ∷ t) (remove_gap es k i (gap_tail e es k i g))
+
+  -- a put keeps the order
+  pub sorted_put : (es : List (K × X)) (k : K) (v : X) → is_sorted R es ≡ true → is_sorted R (put R k v es) ≡ true
+  sorted_put es k v s = so _ (is_sorted-put R o k v es (to_so _ s))
+
+  -- the entries that come behind a key
+  pub behind_all : (es : List (K × X)) (k : K) → below_all R k es ≡ true → where_key R (λ q. is_lt (R k q)) es ≡ es
+  behind_all [] k h = refl
+  behind_all (e ∷ es) k h =
+      let parts = and_parts (is_lt (R k e.0)) (below_all R k es) h in
+      ap (λ b. cond b (e ∷ where_key R (λ q. is_lt (R k q)) es) (where_key R (λ q. is_lt (R k q)) es)) parts.0
+      ∙ ap (λ t. e ∷ t) (behind_all es k parts.1)
+
+  pub behind_at : (es : List (K × X)) (k : K) (i : ℕ) (d : K × X) → is_sorted R es ≡ true → i < length es → R (get_or es i d).0 k ≡ Equal → where_key R (λ q. is_lt (R k q)) es ≡ drop (suc i) es
+  behind_at [] k i d s l t = absurd (omega arith)
+  behind_at (e ∷ es) k zero d s l t =
+      ap (λ r. cond (is_lt r) (e ∷ where_key R (λ q. is_lt (R k q)) es) (where_key R (λ q. is_lt (R k q)) es)) (tied_back o e.0 k t)
+      ∙ behind_all es k (below_tied es e.0 k t (and_parts (below_all R e.0 es) (is_sorted R es) s).0)
+  behind_at (e ∷ es) k (suc i) d s l t =
+      let l' : i < length es = omega arith in
+      let parts = and_parts (below_all R e.0 es) (is_sorted R es) s in
+      ap (λ r. cond (is_lt r) (e ∷ where_key R (λ q. is_lt (R k q)) es) (where_key R (λ q. is_lt (R k q)) es)) (turned_above o e.0 (get_or es i d).0 k (below_at e.0 es i d parts.0 l') t)
+      ∙ behind_at es k i d parts.1 l' t
+
+  pub behind_gap : (es : List (K × X)) (k : K) (i : ℕ) → IsGapAt R es k i → where_key R (λ q. is_lt (R k q)) es ≡ drop i es
+  behind_gap [] k zero g = refl
+  behind_gap [] k (suc i) g = refl
+  behind_gap (e ∷ es) k zero g =
+      ap (λ r. cond (is_lt r) (e ∷ where_key R (λ q. is_lt (R k q)) es) (where_key R (λ q. is_lt (R k q)) es)) (turned o e.0 k Greater (g.greater 0 e (omega arith) (omega arith)))
+      ∙ ap (λ t. e ∷ t) (behind_gap es k zero (gap_tail_zero e es k g))
+  behind_gap (e ∷ es) k (suc i) g =
+      ap (λ r. cond (is_lt r) (e ∷ where_key R (λ q. is_lt (R k q)) es) (where_key R (λ q. is_lt (R k q)) es)) (turned o e.0 k Less (g.smaller 0 e (omega arith)))
+      ∙ behind_gap es k i (gap_tail e es k i g)
+
+  pub below_behind : (es : List (K × X)) (k : K) → below_all R k (where_key R (λ q. is_lt (R k q)) es) ≡ true
+  below_behind [] k = refl
+  below_behind (e ∷ es) k =
+      elim (is_lt (R k e.0)) as (λ b. is_lt (R k e.0) ≡ b → below_all R k (cond b (e ∷ where_key R (λ q. is_lt (R k q)) es) (where_key R (λ q. is_lt (R k q)) es)) ≡ true) [
+        | true ↦ λ t. ap (λ b. b && below_all R k (where_key R (λ q. is_lt (R k q)) es)) t ∙ below_behind es k
+        | false ↦ λ t. below_behind es k
+      ] refl
+
+  pub sorted_behind : (es : List (K × X)) (k : K) → is_sorted R es ≡ true → is_sorted R (where_key R (λ q. is_lt (R k q)) es) ≡ true
+  sorted_behind es k s = so _ (is_sorted-where_key R _ es (to_so _ s))

@@ -1,3 +1,4 @@
 pub mod PathLemmas
 pub mod EntryLemmas
 pub mod TreeLemmas
+pub mod UnderLemmas

@@ -3,7 +3,8 @@ use Rattle.std.proofs.Common.{◌≡◌, ℕ, ◌+◌, ◌<◌, ◌≤◌, Bool,
 use Rattle.std.specs.List.{AllByRecursion}
 use Rattle.std.proofs.lemmas.List.Elements.{All-from_recursion, All-weaker}
 use Rattle.std.specs.List.{AllZip, starts_with}
-use Rattle.std.specs.Str.{bytes_eq}
+use Rattle.std.specs.Str.{bytes_eq, IsUtf8}
+use Rattle.std.proofs.lemmas.Str.{IsUtf8-string_bytes}
 use Rattle.std.specs.Hash as fed
 use Rattle.std.specs.List.{flat_map}
 use Rattle.std.proofs.Common.{◌++◌}
@@ -125,3 +126,11 @@ pub text_next : {A : Type 0} (xs : List (String A)) (i : ℕ) (d : String A) →
 text_next xs i d l p =
     ap (λ ss. text_of (bytes_of ss)) (take_more xs i d l) ∙ ap text_of (map-append (λ s. string_bytes s) (take i xs) (get_or xs i d ∷ []))
     ∙ text_of-push (bytes_of (take i xs)) (string_bytes (get_or xs i d)) (omega (arith, length_mapped (λ s. string_bytes s) (take i xs), length-take-le i xs (omega arith)))
+
+each_utf8 : {A : Type 0} (ss : List (String A)) → AllByRecursion IsUtf8 (bytes_of ss)
+each_utf8 [] = tt
+each_utf8 (s ∷ ss) = (IsUtf8-string_bytes s, each_utf8 ss)
+
+-- the bytes of each segment are UTF-8
+pub all_utf8 : {A : Type 0} (ss : List (String A)) → All IsUtf8 (bytes_of ss)
+all_utf8 ss = All-from_recursion IsUtf8 (bytes_of ss) (each_utf8 ss)

@@ -10,37 +10,28 @@ use Rattle.wse_path.specs.Tree.{Entries, is_near, fits, is_folder, entry_above, 
 use Rattle.wse_path.specs.Path.{Path, is_under}
 use Rattle.std.specs.FinMap.Entries.{find-put, find-where_key, below_all, by_order}
 use Rattle.std.proofs.Common.{option_map, ◌++◌, ◌∙◌, ◌≢◌}
-use Rattle.wse_path.proofs.EntryLemmas.{and_parts, less_so}
+use Rattle.wse_path.proofs.EntryLemmas.{and_parts, less_so, equal_so, so, to_so, sorted_put, find_at, below_at, gap_tail, gap_tail_zero}
+use Rattle.wse_path.proofs.UnderLemmas.{under_behind, under_between}
+use Rattle.wse_path.specs.Place.{IsGapAt}
+use Rattle.std.specs.Prelude.{find as find_entry}
+use Rattle.std.proofs.Common.{zero, suc, ◌<◌, ◌≤◌, ◌&&◌, get_or}
 use Rattle.std.proofs.lemmas.Bool.{le-ltb}
 use Rattle.std.proofs.Common.{◌⊎◌, inl, inr, ◌||◌, length, arith}
-use Rattle.std.proofs.Common.{[], ◌∷◌, ◌≡◌, ℕ, Bool, true, false, List, Option, None, subst, sym, refl, ap}
+use Rattle.std.proofs.Common.{[], ◌∷◌, ◌≡◌, ℕ, Bool, true, false, List, Option, None, sym, refl, ap}
 use Rattle.std.specs.Prelude.{not}
-use lib.Dec.{T}
 use Rattle.std.specs.FinMap.{is_sorted}
-use Rattle.std.specs.FinMap.Entries.{is_sorted-put, is_sorted-where_key}
+use Rattle.std.specs.FinMap.Entries.{is_sorted-where_key}
 use Rattle.std.specs.Cmp.Lexicographic.{lists_total, nat_list_cmp_total}
 use Rattle.wse_path.specs.Order.{path_cmp}
 use Rattle.wse_path.specs.Tree.{put_file, remove_file}
 
-so : (b : Bool) → T b → b ≡ true
-so true h = refl
-so false h = absurd h
-
-to_so : (b : Bool) → b ≡ true → T b
-to_so b h = subst T (sym h) tt
-
 pub rises_put : (es : Entries) (p : Path) (bytes : List ℕ) → is_sorted path_cmp es ≡ true → is_sorted path_cmp (put_file es p bytes) ≡ true
-rises_put es p bytes s = so _ (is_sorted-put path_cmp (lists_total nat_list_cmp_total) p bytes es (to_so _ s))
+rises_put es p bytes s = sorted_put (lists_total nat_list_cmp_total) es p bytes s
 
 pub rises_remove : (es : Entries) (p : Path) → is_sorted path_cmp es ≡ true → is_sorted path_cmp (remove_file es p) ≡ true
 rises_remove es p s = so _ (is_sorted-where_key path_cmp _ es (to_so _ s))
 
-equal_so : (r : Ordering) → is_eq r ≡ true → r ≡ Equal
-equal_so Less h = cc
-equal_so Equal h = refl
-equal_so Greater h = cc
-
-tied_path : (p q : Path) → path_cmp p q ≡ Equal → p ≡ q
+pub tied_path : (p q : Path) → path_cmp p q ≡ Equal → p ≡ q
 tied_path p q t = slice_cmp-IsAntisymmetric (slice_cmp-IsAntisymmetric nat_cmp-IsAntisymmetric) p q t
 
 alike_reversed : (o : Ordering) → o ≡ ordering_reverse o → is_eq o ≡ true
@@ -48,7 +39,7 @@ alike_reversed Less e = cc
 alike_reversed Equal e = refl
 alike_reversed Greater e = cc
 
-tied_itself : (p : Path) → eq_by_cmp path_cmp p p ≡ true
+pub tied_itself : (p : Path) → eq_by_cmp path_cmp p p ≡ true
 tied_itself p = alike_reversed (path_cmp p p) ((lists_total nat_list_cmp_total).antisymm p p)
 
 -- paths that tie are equal
@@ -160,23 +151,26 @@ above_so : (x y : Path) → path_cmp x y ≡ Less → path_cmp y x ≡ Greater
 above_so x y l = (lists_total nat_list_cmp_total).antisymm y x ∙ ap ordering_reverse l
 
 -- the path of an entry isn't among those before it
-absent_before : (es : Entries) (e : Path × List ℕ) (rest : Entries) → is_sorted path_cmp (es ++ e ∷ rest) ≡ true → is_present es e.0 ≡ false
+pub absent_before : (es : Entries) (e : Path × List ℕ) (rest : Entries) → is_sorted path_cmp (es ++ e ∷ rest) ≡ true → is_present es e.0 ≡ false
 absent_before [] e rest s = refl
 absent_before (f ∷ es) e rest s =
     let parts = and_parts (below_all path_cmp f.0 (es ++ e ∷ rest)) (is_sorted path_cmp (es ++ e ∷ rest)) s in
     ap (λ o. is_some (cond (is_eq o) (Some f.1) (find path_cmp e.0 es))) (above_so f.0 e.0 (below_one f.0 es e rest parts.0))
     ∙ absent_before es e rest parts.1
 
--- where each that is present passes, no entry fails
-none_any_where : (es : Entries) (k : Path) → ((q : Path) → is_present es q ≡ true → is_near k q ≡ false) → list_any (λ e. is_near k e.0) es ≡ false
-none_any_where [] k each = refl
-none_any_where (e ∷ es) k each =
-    rw (each e.0 (present_first e es)) (none_any_where es k (λ q h. each q (elim (eq_by_cmp path_cmp q e.0) as (λ b. is_some (cond b (Some e.1) (find path_cmp q es)) ≡ true) [ true ↦ refl | false ↦ h ])))
+-- where none that is present passes, no entry does
+pub none_any : (es : Entries) (f : Path → Bool) → ((q : Path) → is_present es q ≡ true → f q ≡ false) → list_any (λ e. f e.0) es ≡ false
+none_any [] f each = refl
+none_any (e ∷ es) f each =
+    rw (each e.0 (present_first e es)) (none_any es f (λ q h. each q (elim (eq_by_cmp path_cmp q e.0) as (λ b. is_some (cond b (Some e.1) (find path_cmp q es)) ≡ true) [ true ↦ refl | false ↦ h ])))
 
-near_parts : (a b c : Bool) → a ≡ false → b ≡ false → c ≡ false → (a || b || c) ≡ false
+pub none_any_where : (es : Entries) (k : Path) → ((q : Path) → is_present es q ≡ true → is_near k q ≡ false) → list_any (λ e. is_near k e.0) es ≡ false
+none_any_where es k each = none_any es (is_near k) each
+
+pub near_parts : (a b c : Bool) → a ≡ false → b ≡ false → c ≡ false → (a || b || c) ≡ false
 near_parts a b c f g h = rw (f, g, h) refl
 
-not_tied : (es : Entries) (k q : Path) → is_present es k ≡ false → is_present es q ≡ true → eq_by_cmp path_cmp k q ≡ false
+pub not_tied : (es : Entries) (k q : Path) → is_present es k ≡ false → is_present es q ≡ true → eq_by_cmp path_cmp k q ≡ false
 not_tied es k q absent here =
     elim (eq_by_cmp path_cmp k q) as (λ b. eq_by_cmp path_cmp k q ≡ b → b ≡ false) [
       | true ↦ λ t. let same = ap (is_present es) (same_path k q t) in cc
@@ -219,3 +213,97 @@ content_put_other es k v q ne =
       | true ↦ λ t. absurd (ne (same_path q k t))
       | false ↦ λ t. refl
     ] refl
+
+-- an entry's path is present
+present_at : (es : Entries) (i : ℕ) (d : Path × List ℕ) → is_sorted path_cmp es ≡ true → i < length es → is_present es (get_or es i d).0 ≡ true
+present_at es i d s l = ap is_some (find_at (lists_total nat_list_cmp_total) es (get_or es i d).0 i d s l (equal_so _ (tied_itself (get_or es i d).0)))
+
+tree_tail : (e : Path × List ℕ) (es : Entries) → IsTree (e ∷ es) → IsTree es
+tree_tail e es tree =
+    let kept = λ (q : Path) (h : is_present es q ≡ true). elim (eq_by_cmp path_cmp q e.0) as (λ b. is_some (cond b (Some e.1) (find path_cmp q es)) ≡ true) [ true ↦ refl | false ↦ h ] in
+    record {
+      rises = (and_parts (below_all path_cmp e.0 es) (is_sorted path_cmp es) tree.rises).1;
+      apart = λ p q hp hq. tree.apart p q (kept p hp) (kept q hq);
+    }
+
+-- where none passes, none is found
+find_none : {A : Type 0} (f : A → Bool) (xs : List A) → list_any f xs ≡ false → find_entry f xs ≡ None
+find_none f [] h = refl
+find_none f (x ∷ xs) h =
+    let parts = or_parts (f x) (list_any f xs) h in
+    ap (λ b. cond b (Some x) (find_entry f xs)) parts.0 ∙ find_none f xs parts.1
+
+-- no file stands above one
+pub none_above_one : (es : Entries) (p : Path) → IsTree es → is_present es p ≡ true → file_above es p ≡ None
+none_above_one es p tree here = ap (option_map (λ (e : Path × List ℕ). e.0)) (find_none _ es (none_any es (λ q. is_under p q) (λ q h. tree.apart p q here h)))
+
+not_above : (p q : Path) → path_cmp q p ≡ Greater → is_under p q ≡ false
+not_above p q g =
+    elim (is_under p q) as (λ t. is_under p q ≡ t → t ≡ false) [
+      | true ↦ λ u. ap is_lt (sym (under_behind p q u) ∙ g)
+      | false ↦ λ u. refl
+    ] refl
+
+above_zero : (es : Entries) (p : Path) → IsGapAt path_cmp es p 0 → entry_above es p ≡ None
+above_zero [] p g = refl
+above_zero (e ∷ es) p g =
+    ap (λ b. cond b (Some e) (entry_above es p)) (not_above p e.0 (g.greater 0 e (omega arith) (omega arith)))
+    ∙ above_zero es p (gap_tail_zero (lists_total nat_list_cmp_total) e es p g)
+
+-- no file stands above a path before all of them
+pub none_above_first : (es : Entries) (p : Path) → IsGapAt path_cmp es p 0 → file_above es p ≡ None
+none_above_first es p g = ap (option_map (λ (e : Path × List ℕ). e.0)) (above_zero es p g)
+
+-- what stands in a tree before another that is before p isn't above p
+not_above_next : (es : Entries) (e f : Path × List ℕ) (p : Path) → IsTree es → is_present es e.0 ≡ true → is_present es f.0 ≡ true → path_cmp e.0 f.0 ≡ Less → path_cmp f.0 p ≡ Less → is_under p e.0 ≡ false
+not_above_next es e f p tree here there l m =
+    elim (is_under p e.0) as (λ t. is_under p e.0 ≡ t → t ≡ false) [
+      | true ↦ λ u. sym (under_between e.0 f.0 p l m u) ∙ tree.apart f.0 e.0 there here
+      | false ↦ λ u. refl
+    ] refl
+
+above_last : (es : Entries) (p : Path) (i : ℕ) (d : Path × List ℕ) → IsTree es → IsGapAt path_cmp es p (suc i) → entry_above es p ≡ cond (is_under p (get_or es i d).0) (Some (get_or es i d)) None
+above_last [] p i d tree g = absurd (let w : suc i ≤ 0 = g.within in omega arith)
+above_last (e ∷ es) p zero d tree g = ap (λ o. cond (is_under p e.0) (Some e) o) (above_zero es p (gap_tail (lists_total nat_list_cmp_total) e es p 0 g))
+above_last (e ∷ es) p (suc i) d tree g =
+    let w : suc (suc i) ≤ suc (length es) = g.within in
+    let l : 0 < length es = omega arith in
+    let order = below_at (lists_total nat_list_cmp_total) e.0 es 0 e (and_parts (below_all path_cmp e.0 es) (is_sorted path_cmp es) tree.rises).0 l in
+    let no = not_above_next (e ∷ es) e (get_or es 0 e) p tree (present_first e es) (present_at (e ∷ es) 1 e tree.rises (omega arith)) order (g.smaller 1 e (omega arith)) in
+    ap (λ b. cond b (Some e) (entry_above es p)) no ∙ above_last es p i d (tree_tail e es tree) (gap_tail (lists_total nat_list_cmp_total) e es p (suc i) g)
+
+-- of a tree only the last file before p can stand above it
+pub above_before : (es : Entries) (p : Path) (i : ℕ) (d : Path × List ℕ) → IsTree es → IsGapAt path_cmp es p (suc i) → file_above es p ≡ cond (is_under p (get_or es i d).0) (Some (get_or es i d).0) None
+above_before es p i d tree g =
+    ap (option_map (λ (e : Path × List ℕ). e.0)) (above_last es p i d tree g)
+    ∙ elim (is_under p (get_or es i d).0) as (λ b. option_map (λ (e : Path × List ℕ). e.0) (cond b (Some (get_or es i d)) None) ≡ cond b (Some (get_or es i d).0) None) [ true ↦ refl | false ↦ refl ]
+
+some_step : {A : Type 0} (b : Bool) (x : A) (o : Option A) → is_some (cond b (Some x) o) ≡ (b || is_some o)
+some_step true x o = refl
+some_step false x o = refl
+
+some_mapped : {A B : Type 0} (f : A → B) (o : Option A) → is_some (option_map f o) ≡ is_some o
+some_mapped f None = refl
+some_mapped f (Some x) = refl
+
+shuffled : (a b c x y z : Bool) → ((a || b || c) || (x || y || z)) ≡ ((a || x) || (b || y) || (c || z))
+shuffled true b c x y z = refl
+shuffled false b c x y z = grind arith
+
+near_any : (es : Entries) (p : Path) → list_any (λ e. is_near p e.0) es ≡ (is_present es p || is_some (entry_above es p) || is_folder es p)
+near_any [] p = refl
+near_any (e ∷ es) p =
+    ap (λ b. is_near p e.0 || b) (near_any es p)
+    ∙ shuffled (eq_by_cmp path_cmp p e.0) (is_under p e.0) (is_under e.0 p) (is_present es p) (is_some (entry_above es p)) (is_folder es p)
+    ∙ (λ i. sym (some_step (eq_by_cmp path_cmp p e.0) e.1 (content es p)) i || sym (some_step (is_under p e.0) e (entry_above es p)) i || is_folder (e ∷ es) p)
+
+none_of : (a b c : Bool) → not (a || b || c) ≡ (not a && (not b && not c))
+none_of true b c = refl
+none_of false true c = refl
+none_of false false c = refl
+
+-- a path fits where it is absent, no file is above it, and it is no folder
+pub fits_is : (es : Entries) (p : Path) → fits es p ≡ (not (is_present es p) && (not (is_some (file_above es p)) && not (is_folder es p)))
+fits_is es p =
+    ap not (near_any es p) ∙ none_of (is_present es p) (is_some (entry_above es p)) (is_folder es p)
+    ∙ ap (λ b. not (is_present es p) && (not b && not (is_folder es p))) (sym (some_mapped (λ (e : Path × List ℕ). e.0) (entry_above es p)))

@@ -1,10 +1,10 @@
 -- Trees: finite maps from paths to bytes in which no path is under another.
-use Rattle.std.specs.Prelude.{◌≡◌, ◌⊎◌, ℕ, Bool, true, false, not, ◌||◌, List, Option, option_map, is_some}
+use Rattle.std.specs.Prelude.{◌≡◌, ◌⊎◌, ℕ, Bool, true, false, not, ◌||◌, List, [], ◌∷◌, map, Option, option_map, is_some}
 use Rattle.std.specs.Prelude.{find as find_entry}
 use Rattle.std.specs.List.{list_any}
 use Rattle.std.specs.FinMap.{find, put, is_sorted}
 use Rattle.std.specs.FinMap.Entries.{where_key}
-use Rattle.std.specs.Ordering.{eq_by_cmp}
+use Rattle.std.specs.Ordering.{eq_by_cmp, is_lt}
 use Rattle.wse_path.specs.Path.{Path, is_under}
 use Rattle.wse_path.specs.Order.{path_cmp}
 
@@ -28,6 +28,11 @@ is_present files p = is_some (content files p)
 abbrev pub put_file : Entries → Path → List ℕ → Entries
 put_file files p bytes = put path_cmp p bytes files
 
+-- The files with all of these put, one after another.
+abbrev pub put_all : Entries → Entries → Entries
+put_all [] files = files
+put_all (e ∷ more) files = put_all more (put_file files e.0 e.1)
+
 -- The files but for the one at the path.
 abbrev pub remove_file : Entries → Path → Entries
 remove_file files p = where_key path_cmp (λ q. not (eq_by_cmp path_cmp p q)) files
@@ -43,6 +48,14 @@ fits files p = not (list_any (λ e. is_near p e.0) files)
 -- Some file is under the path.
 abbrev pub is_folder : Entries → Path → Bool
 is_folder files p = list_any (λ e. is_under e.0 p) files
+
+-- The paths of the files under the path, in path order.
+abbrev pub paths_under : Entries → Path → List Path
+paths_under files p = map (λ e. e.0) (where_key path_cmp (λ q. is_under q p) files)
+
+-- The entries that come behind the path.
+abbrev pub entries_behind : Entries → Path → Entries
+entries_behind files p = where_key path_cmp (λ q. is_lt (path_cmp p q)) files
 
 -- The first entry in path order whose path is above this one.
 abbrev pub entry_above : Entries → Path → Option (Path × List ℕ)

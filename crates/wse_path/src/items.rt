@@ -21,6 +21,21 @@ impl Duplicate for u8 {
     }
 }
 
+impl Duplicate for u32 {
+    fn duplicate(&self, _alloc: Global) -> Result<u32, Memory> {
+        Ok(*self)
+    }
+}
+
+impl<T: Duplicate + Drop> Duplicate for Option<T> {
+    fn duplicate(&self, alloc: Global) -> Result<Option<T>, Memory> {
+        match self {
+            Some(value) => Ok(Some(value.duplicate(alloc)?)),
+            None => Ok(None),
+        }
+    }
+}
+
 /// A list that no longer grows. Contracts see it as a list.
 #[derive(Debug, Drop)]
 pub struct Items<T> {
@@ -63,6 +78,13 @@ impl<T> Items<T> {
         self.all.is_empty()
     }
 
+    /// Takes the items out. Takes no memory.
+    pub fn into_vec(self) -> Vec<T>
+        ensures { result.items ≡ self }
+    {
+        self.all
+    }
+
     /// The items as a slice.
     pub fn as_slice(&self) -> &[T]
         ensures { result.now ≡ self.now }
@@ -73,7 +95,7 @@ impl<T> Items<T> {
 
 impl<T: Duplicate + Drop> Duplicate for Items<T> {
     fn duplicate(&self, alloc: Global) -> Result<Items<T>, Memory> {
-        let mut all = Vec::new(alloc);
+        let mut all = Vec::with_capacity(alloc, self.all.len())?;
         for item in &self.all {
             all.push(item.duplicate(alloc)?)?;
         }

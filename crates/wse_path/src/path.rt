@@ -1,6 +1,7 @@
 // Paths below the root.
 ghost use Rattle.std.specs.Prelude.{◌≡◌, ◌↔◌, ◌≤◌, ℕ, List, None, Some, IfOk, IfErr, OnOk, IsTrue, All, length, position, slice_get, string_bytes};
 ghost use Rattle.std.specs.Option.{option_copied};
+ghost use Rattle.std.specs.Str.{IsUtf8};
 ghost use Rattle.wse_path.specs.Path.{bytes_of, has_bad_byte, is_bad, text_of, refusal, IsPath, is_under};
 
 use crate::items::Duplicate;
@@ -124,6 +125,7 @@ impl RelPath {
     pub fn depth(&self) -> usize
         ensures depth { result ≡ length self.now }
         ensures path { IsPath self.now }
+        ensures utf8 { All IsUtf8 self.now }
     {
         self.segments.len()
     }

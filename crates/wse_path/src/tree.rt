@@ -1,13 +1,12 @@
 // Trees: paths with their bytes, no path under another.
-ghost use Rattle.std.specs.Prelude.{◌≡◌, ◌⊎◌, ◌+◌, ◌<◌, ◌≤◌, [], length, map, insert, true, is_some, IfOk, IfErr, OnOk, OnErr, slice_get, vec_len};
-ghost use Rattle.std.specs.List.{list_any};
+ghost use Rattle.std.specs.Prelude.{◌≡◌, ◌+◌, ◌<◌, ◌≤◌, [], length, map, IfOk, IfErr, OnOk, OnErr, slice_get};
 ghost use Rattle.std.specs.Option.{option_copied};
-ghost use Rattle.std.specs.Vec.{vec_capacity};
 ghost use Rattle.wse_path.specs.Order.{path_cmp};
 ghost use Rattle.wse_path.specs.Place.{HasKeyAt, IsGapAt};
-ghost use Rattle.wse_path.specs.Tree.{content, is_present, put_file, remove_file, is_near, fits, is_folder, entry_above, file_above, HasRoom, IsTree};
+ghost use Rattle.wse_path.specs.Tree.{content, is_present, put_file, remove_file, fits, is_folder, entries_behind, paths_under, file_above, HasRoom, IsTree};
 
-use crate::items::Bytes;
+use crate::entries::{duplicate_entries, insert_within, search};
+use crate::items::{Bytes, Duplicate, Files};
 use crate::memory::Memory;
 use crate::path::RelPath;
 use std::alloc::Global;
@@ -66,12 +65,13 @@ impl Tree {
         ensures absent { IfErr result (IsGapAt path_cmp self.now.files path.now) }
         ensures tree { IsTree self.now.files }
     {
-        self.entries.binary_search_by(|entry| entry.0.cmp(path))
+        search(&self.entries, path)
     }
 
     /// The bytes at the path. Takes no memory.
     pub fn get(&self, path: &RelPath) -> Option<&[u8]>
-        ensures { option_copied result ≡ content self.now.files path.now }
+        ensures content { option_copied result ≡ content self.now.files path.now }
+        ensures tree { IsTree self.now.files }
     {
         match self.search(path) {
             Ok(at) => {
@@ -82,42 +82,69 @@ impl Tree {
         }
     }
 
+    // The entries that come behind the path.
+    fn behind(&self, path: &RelPath) -> &[(RelPath, Bytes)]
+        ensures entries { result.now ≡ entries_behind self.now.files path.now }
+        ensures tree { IsTree self.now.files }
+    {
+        match self.search(path) {
+            Ok(at) => &self.entries[at + 1..],
+            Err(at) => &self.entries[at..],
+        }
+    }
+
     /// Whether some file is under the path. Takes no memory.
     pub fn is_folder(&self, path: &RelPath) -> bool
-        ensures { result ≡ is_folder self.now.files path.now }
+        ensures folder { result ≡ is_folder self.now.files path.now }
+        ensures tree { IsTree self.now.files }
     {
-        self.entries.iter().any(|entry| entry.0.is_under(path))
+        // All that is under a path comes right behind it.
+        match self.behind(path).first() {
+            Some(entry) => entry.0.is_under(path),
+            None => false,
+        }
+    }
+
+    /// The files under the path, in path order.
+    pub fn under(&self, alloc: Global, path: &RelPath) -> Result<Files, Memory>
+        ensures { IfOk result (λ paths. paths ≡ paths_under self.now.files path.now) }
+    {
+        let mut paths = Vec::new(alloc);
+        for entry in self.behind(path) {
+            if !entry.0.is_under(path) {
+                break;
+            }
+            paths.push(entry.0.duplicate(alloc)?)?;
+        }
+        Ok(Files::new(paths))
     }
 
     /// The file that stands above the path, if there is one. Takes no memory.
     pub fn file_above(&self, path: &RelPath) -> Option<&RelPath>
         ensures { option_copied result ≡ file_above self.now.files path.now }
     {
-        match self.entry_above(path) {
-            Some(entry) => Some(&entry.0),
-            None => None,
+        match self.search(path) {
+            // In a tree no file is above another.
+            Ok(_) => None,
+            Err(0) => None,
+            Err(at) => {
+                // Only the last file before it can be above it: one between the two would be under the other.
+                let before = &self.entries[at - 1].0;
+                if path.is_under(before) {
+                    Some(before)
+                } else {
+                    None
+                }
+            }
         }
     }
 
-    fn entry_above(&self, path: &RelPath) -> Option<&(RelPath, Bytes)>
-        ensures { option_copied result ≡ entry_above self.now.files path.now }
-    {
-        self.entries.iter().find(|entry| path.is_under(&entry.0))
-    }
-
     /// Whether nothing is at, above or under the path. Takes no memory.
+    #[tactic(auto, using(crate::proofs::TreeLemmas::fits_is))]
     pub fn fits(&self, path: &RelPath) -> bool
         ensures { result ≡ fits self.now.files path.now }
     {
-        !self.has_near(path)
-    }
-
-    fn has_near(&self, path: &RelPath) -> bool
-        ensures { result ≡ list_any (λ e. is_near path.now e.0) self.now.files }
-    {
-        self.entries
-            .iter()
-            .any(|entry| is_near_path(path, &entry.0))
+        self.get(path).is_none() && self.file_above(path).is_none() && !self.is_folder(path)
     }
 
     /// Puts the bytes at the path, in place of what is there. After Memory the tree is as it was.
@@ -175,27 +202,12 @@ impl Tree {
             Err(_) => false,
         }
     }
-}
 
-// Puts an entry into room that is there.
-fn insert_within(entries: &mut Vec<(RelPath, Bytes)>, at: usize, path: RelPath, bytes: Bytes)
-    requires within { at ≤ vec_len entries.old }
-    requires room { vec_len entries.old < vec_capacity entries.old }
-    ensures items { entries.new.items ≡ insert entries.old.items at (path, bytes) }
-    ensures len { vec_len entries.new ≡ vec_len entries.old + 1 }
-    ensures capacity { vec_capacity entries.old ≤ vec_capacity entries.new }
-{
-    match entries.insert(at, (path, bytes)) {
-        Ok(()) => (),
-        Err(_) => unreachable!(),
+    /// A tree with the same files. How much room it has is its own matter.
+    pub fn duplicate(&self, alloc: Global) -> Result<Tree, Memory>
+        ensures { IfOk result (λ copy. copy.files ≡ self.now.files) }
+    {
+        let entries = duplicate_entries(&self.entries, alloc)?;
+        Ok(Tree { entries })
     }
 }
-
-fn is_near_path(path: &RelPath, other: &RelPath) -> bool
-    ensures { result ≡ is_near path.now other.now }
-{
-    path.cmp(other).is_eq() || path.is_under(other) || other.is_under(path)
-}
-
-#[cfg(test)]
-mod tests;

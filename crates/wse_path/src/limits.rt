@@ -1,0 +1,36 @@
+// Numbers that nothing may pass.
+ghost use Rattle.std.specs.Prelude.{◌≡◌};
+ghost use Rattle.wse_path.specs.Limits.{standard};
+
+/// What a store may hold. A number passes a limit when it is greater. This project's own rule.
+#[derive(Debug, Clone, Copy, PartialEq, Eq)]
+pub struct Limits {
+    /// Files of the tree.
+    pub files: u64,
+    /// Bytes of one file.
+    pub file_bytes: u64,
+    /// Bytes of all files.
+    pub tree_bytes: u64,
+    /// 32 plus the bytes of its text for each path that has a version.
+    pub known: u64,
+    /// What the history holds.
+    pub weight: u64,
+    /// Commands that changed something.
+    pub serial: u64,
+}
+
+impl Limits {
+    /// The limits of the program.
+    pub fn standard() -> Limits
+        ensures { result ≡ standard }
+    {
+        Limits {
+            files: 65_536,
+            file_bytes: 16_777_216,
+            tree_bytes: 268_435_456,
+            known: 536_870_912,
+            weight: 536_870_912,
+            serial: 1_073_741_823,
+        }
+    }
+}
