@@ -3,10 +3,11 @@ use Rattle.std.specs.Prelude.{◌≡◌, ℕ, ◌+◌, ◌-◌, ◌^◌, ◌==�
 use Rattle.std.specs.List.{list_any}
 use Rattle.wse_path.specs.Tree.{Entries, IsTree}
 
--- Its files, which are a tree, the numbers of the calls that fail, and its counts.
+-- Its files, which are a tree, whether a write came since the last sync, the numbers of the calls that fail, and its counts.
 pub record MemState : Type 0 where
   pub files : Entries
   pub is_tree : IsTree files
+  pub pending : Bool
   pub fails : List ℕ
   pub calls : ℕ
   pub faults : ℕ
@@ -19,6 +20,7 @@ pub record IsUncalled (disk : MemState) : Type 0 where
   pub faults : disk.faults ≡ 0
   pub starved : disk.starved ≡ 0
   pub moment : disk.moment ≡ 0
+  pub pending : disk.pending ≡ false
 
 -- One more, up to the largest number of 64 bits.
 abbrev pub one_more : ℕ → ℕ
@@ -46,6 +48,7 @@ pub record Counts (old new : MemState) (failed no_memory : Bool) : Type 0 where
 pub record CountsOnly (old new : MemState) : Type 0 where
   pub counts : Counts old new (next_call_fails old) false
   pub files : new.files ≡ old.files
+  pub pending : new.pending ≡ old.pending
   pub moment : new.moment ≡ old.moment
 
 -- A store, an erase or a sync is counted, and is a moment unless it found no memory.

@@ -1,5 +1,5 @@
 // A disk in memory.
-ghost use Rattle.std.specs.Prelude.{◌≡◌, ◌↔◌, ◌≤◌, [], map, length, option_map, is_some, is_err, IsErr, IsErrOf, IsTrue, IfOk, OnOk, OnErr, false};
+ghost use Rattle.std.specs.Prelude.{◌≡◌, ◌↔◌, ◌≤◌, [], map, length, option_map, is_some, is_err, IsErr, IsErrOf, IsTrue, IfOk, OnOk, OnErr, true, false, not, ◌&&◌, ◌||◌};
 ghost use Rattle.wse_path.specs.Causes.{HasCause};
 ghost use Rattle.wse_path.specs.Tree.{content, put_file, remove_file, HasRoom, IsTree};
 ghost use Rattle.wse_disk.specs.Causes.{HasReadCause};
@@ -19,6 +19,7 @@ use wse_path::{Memory, RelPath, Tree};
 pub struct MemDisk {
     alloc: Global,
     tree: Tree,
+    pending: bool,
     fails: Vec<u64>,
     calls: u64,
     faults: u64,
@@ -35,6 +36,7 @@ impl Model for MemDisk {
     ghost view = { λ a. record {
       files = a.tree.files;
       is_tree = a.is_tree;
+      pending = a.pending;
       fails = a.fails.items;
       calls = a.calls;
       faults = a.faults;
@@ -54,6 +56,7 @@ impl MemDisk {
         MemDisk {
             alloc,
             tree,
+            pending: false,
             fails,
             calls: 0,
             faults: 0,
@@ -92,6 +95,13 @@ impl MemDisk {
         self.starved
     }
 
+    /// Whether a write came since the last sync that succeeded.
+    pub fn is_pending(&self) -> bool
+        ensures { result ≡ self.now.pending }
+    {
+        self.pending
+    }
+
     // Counts a call, which fails where its number is in the list.
     fn begin(&mut self) -> Result<(), Failed>
         ensures cause { HasCause self.old.faults self.new.faults result }
@@ -109,6 +119,7 @@ impl MemDisk {
     // Counts a write that needs no memory, and its moment.
     fn begin_write(&mut self) -> Result<(), Failed>
         ensures same { self.new.files ≡ self.old.files }
+        ensures pending { self.new.pending ≡ self.old.pending }
         ensures later { self.old.moment ≤ self.new.moment }
         ensures cause { HasCause self.old.faults self.new.faults result }
         ensures failed { IsErr result ↔ IsTrue (next_call_fails self.old) }
@@ -123,7 +134,7 @@ impl MemDisk {
 impl Disk for MemDisk {
     ghost tells = { Unit {0} };
 
-    ghost stands = { λ d. record { reading = record { files = d.files } } };
+    ghost stands = { λ d. record { reading = record { files = d.files }; pending = d.pending } };
 
     ghost moment_of = { λ d. d.moment };
 
@@ -185,17 +196,20 @@ impl Disk for MemDisk {
         requires { HasRoom self.old.files path.now }
         ensures stored { OnOk result (self.new.files ≡ put_file self.old.files path.now bytes.now) }
         ensures kept { OnErr result (self.new.files ≡ self.old.files) }
+        ensures pending { self.new.pending ≡ (self.old.pending || not (is_starved self.old result)) }
         ensures later { self.old.moment ≤ self.new.moment }
         ensures cause { HasCause self.old.faults self.new.faults result }
         ensures failed { IsTrue (next_call_fails self.old) → IsErr result }
         ensures counts { CountsWrite self.old self.new (is_err result) (is_starved self.old result) }
     {
         if let Err(failed) = self.begin() {
+            self.pending = true;
             self.moment = self.moment.saturating_add(1);
             return Err(failed);
         }
         match put_copy(self.alloc, &mut self.tree, path, bytes) {
             Ok(()) => {
+                self.pending = true;
                 self.moment = self.moment.saturating_add(1);
                 Ok(())
             }
@@ -211,11 +225,13 @@ impl Disk for MemDisk {
     fn erase(&mut self, path: &RelPath) -> Result<(), Failed>
         ensures erased { OnOk result (self.new.files ≡ remove_file self.old.files path.now) }
         ensures kept { OnErr result (self.new.files ≡ self.old.files) }
+        ensures pending { self.new.pending ≡ true }
         ensures later { self.old.moment ≤ self.new.moment }
         ensures cause { HasCause self.old.faults self.new.faults result }
         ensures failed { IsErr result ↔ IsTrue (next_call_fails self.old) }
         ensures counts { CountsWrite self.old self.new (next_call_fails self.old) false }
     {
+        self.pending = true;
         self.begin_write()?;
         let _ = self.tree.remove(path);
         Ok(())
@@ -223,12 +239,15 @@ impl Disk for MemDisk {
 
     fn sync(&mut self) -> Result<(), Failed>
         ensures same { self.new.files ≡ self.old.files }
+        ensures pending { self.new.pending ≡ (self.old.pending && is_err result) }
         ensures later { self.old.moment ≤ self.new.moment }
         ensures cause { HasCause self.old.faults self.new.faults result }
         ensures failed { IsErr result ↔ IsTrue (next_call_fails self.old) }
         ensures counts { CountsWrite self.old self.new (next_call_fails self.old) false }
     {
-        self.begin_write()
+        self.begin_write()?;
+        self.pending = false;
+        Ok(())
     }
 }
 

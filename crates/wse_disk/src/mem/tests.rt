@@ -70,5 +70,8 @@ fn stored_files_are_named_in_path_order(rt: HostRuntime) -> Result<(), Fail> {
     disk.names(alloc, &mut names)?;
     let wanted = [path(alloc, "a")?, path(alloc, "b")?];
     assert_eq!(rt; names.as_slice(), wanted.as_slice());
+    assert!(rt; disk.is_pending());
+    disk.sync()?;
+    assert!(rt; !disk.is_pending());
     Ok(())
 }
