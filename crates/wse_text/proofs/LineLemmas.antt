@@ -1,11 +1,11 @@
 -- Where lines begin.
-use Rattle.std.proofs.Common.{◌≡◌, ℕ, ◌+◌, ◌-◌, ◌<◌, suc, zero, Bool, true, false, not, cond, ◌&&◌, ◌||◌, List, [], ◌∷◌, ◌++◌, length, take, drop, get_or, eqb, Option, Some, None, IfSome, slice_get, ◌⊎◌, inl, inr, subst, refl, sym, ap, ◌∙◌, arith}
+use Rattle.std.proofs.Common.{◌≡◌, ℕ, ◌+◌, ◌-◌, ◌<◌, suc, zero, Bool, true, false, not, cond, ◌&&◌, ◌||◌, List, [], ◌∷◌, ◌++◌, length, take, drop, filter, get_or, eqb, Option, Some, None, IfSome, slice_get, ◌⊎◌, inl, inr, subst, refl, sym, ap, ◌∙◌, arith}
 use Rattle.std.specs.Char.{encode_utf8, len_utf8}
 use Rattle.std.specs.List.{prefix_len, range_with_len, take_while}
 use Rattle.std.specs.Str.{chars, IsCharBoundary, IsUtf8}
 use Rattle.std.proofs.lemmas.Bool.{cases_lt, eqb-true}
 use Rattle.std.proofs.lemmas.List.{get_or_past, nil_from_length}
-use Rattle.std.proofs.lemmas.List.Elements.{filter_passes}
+use Rattle.std.proofs.lemmas.List.Elements.{filter_passes, filter-append}
 use Rattle.std.proofs.lemmas.Option.{get_or_from_slice_get, slice_get_within}
 use Rattle.std.proofs.lemmas.Str.{chars-nil, chars_past_char, drop_past_char, IsCharBoundary-after_ascii, IsCharBoundary-start, IsUtf8-drop}
 use Rattle.wse_text.specs.Place.{ends_line, begins_line, line_starts, line_at}
@@ -60,3 +60,15 @@ line_at-cons text rest place c utf8 boundary next on =
     ∙ ap (λ b. take (cond (not b) (1 + n) 0) (c ∷ chars rest)) on
     ∙ ap (λ k. take k (c ∷ chars rest)) {x = 1 + n} {y = suc n} (omega arith)
     ∙ ap (λ behind. c ∷ take_while (λ c. not (ends_line c)) (chars behind)) (sym (drop_past_char text rest place c next))
+
+range_more : (a n k : ℕ) → a + n ≡ k → range_with_len a (suc n) ≡ range_with_len a n ++ k ∷ []
+range_more a zero k is = ap (λ j. j ∷ []) {x = a} {y = k} (omega arith)
+range_more a (suc n) k is = ap (λ ks. a ∷ ks) (range_more (a + 1) n k (omega arith))
+
+-- The starts of lines among one place more.
+pub starts_more : (text : List ℕ) (place : ℕ) (b : Bool) → b ≡ begins_line text place → filter (begins_line text) (range_with_len 0 (place + 1)) ≡ filter (begins_line text) (range_with_len 0 place) ++ cond b (place ∷ []) []
+starts_more text place b is =
+    ap (λ n. filter (begins_line text) (range_with_len 0 n)) {x = place + 1} {y = suc place} (omega arith)
+    ∙ ap (filter (begins_line text)) (range_more 0 place place (omega arith))
+    ∙ filter-append (begins_line text) (range_with_len 0 place) (place ∷ [])
+    ∙ ap (λ b. filter (begins_line text) (range_with_len 0 place) ++ cond b (place ∷ []) []) (sym is)

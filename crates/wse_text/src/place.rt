@@ -38,7 +38,7 @@ fn line_start(text: &str, line: u64) -> Option<usize>
         .nth(line as usize)
 }
 
-fn begins_line(text: &[u8], place: usize) -> bool
+pub(crate) fn begins_line(text: &[u8], place: usize) -> bool
     ensures { result ≡ begins_line text.now place }
 {
     if place == 0 {
@@ -52,7 +52,12 @@ fn begins_line(text: &[u8], place: usize) -> bool
 }
 
 /// The place of a character of the line that begins at `start`.
-fn along_line(text: &str, start: usize, enc: Encoding, character: u64) -> Result<usize, Inside>
+pub(crate) fn along_line(
+    text: &str,
+    start: usize,
+    enc: Encoding,
+    character: u64,
+) -> Result<usize, Inside>
     requires { IsCharBoundary text.now start }
     ensures value { result ≡ place_on_line enc start (line_at text.now start) character }
     ensures ok { IfOk result (IsCharBoundary text.now) }
