@@ -16,8 +16,8 @@ use wse_splice::{Splice, Splices};
 /// The edits as splices of the text before them, sorted by start, equal starts in the order of the list. Skipped edits
 /// are passed over. `apply` of the splices is the text after the edits (LSP 3.17, "TextEdit[]").
 ///
-/// It finds each position by a pass over the text, and sorts. Only where two edits overlap does it go through the pairs,
-/// to name the first.
+/// It makes one pass over the text, goes along each position's line, and sorts. Only where two edits overlap does it go
+/// through the pairs, to name the first.
 pub fn resolve(
     alloc: Global,
     text: &str,

@@ -1,12 +1,13 @@
 // The ranges of edits.
 ghost use Rattle.std.specs.Prelude.{◌≡◌, ◌⊎◌, length, All, IfSome, IfOk, IfErr, OnOk};
+ghost use Rattle.wse_text.specs.Place.{line_starts};
 ghost use Rattle.wse_edits.specs.Range.{LiesWithin, range_of, live_range, ranges_of};
 ghost use Rattle.wse_edits.specs.Refusal.{inside_error, inside_of};
 
 use crate::refused::EditsRefused;
 use std::alloc::Global;
 use wse_path::{Encoding, TextEdit};
-use wse_text::{Inside, offset};
+use wse_text::{Inside, LineStarts};
 
 /// The bytes from `start` up to `end`, both counted from the start of the text.
 #[derive(Debug, Clone, Copy, PartialEq, Eq)]
@@ -27,9 +28,10 @@ pub(crate) fn ranges_of(
     ensures ok { OnOk result (inside_of text.now enc edits.now ≡ None) }
     ensures err { IfErr result (λ e. (e ≡ EditsRefused.Memory) ⊎ (inside_of text.now enc edits.now ≡ Some e)) }
 {
+    let starts = LineStarts::of(alloc, text)?;
     let mut ranges = Vec::new(alloc);
     for (number, edit) in edits.iter().enumerate() {
-        match live_range(text, enc, edit) {
+        match live_range(text, &starts, enc, edit) {
             Ok(range) => ranges.push(range)?,
             Err(inside) => {
                 return Err(EditsRefused::Inside {
@@ -45,9 +47,11 @@ pub(crate) fn ranges_of(
 /// The range of an edit that isn't skipped.
 pub(crate) fn live_range(
     text: &str,
+    starts: &LineStarts,
     enc: Encoding,
     edit: &TextEdit,
 ) -> Result<Option<TextRange>, Inside>
+    requires { starts.now ≡ line_starts text.now }
     ensures value { IfOk result (λ range. range ≡ live_range text.now enc edit.now) }
     ensures within { IfOk result (λ range. IfSome range (LiesWithin (length text.now))) }
     ensures ok { OnOk result (inside_error text.now enc edit.now ≡ None) }
@@ -56,16 +60,22 @@ pub(crate) fn live_range(
     if edit.skipped {
         return Ok(None);
     }
-    let range = range_of(text, enc, edit)?;
+    let range = range_of(text, starts, enc, edit)?;
     Ok(Some(range))
 }
 
-fn range_of(text: &str, enc: Encoding, edit: &TextEdit) -> Result<TextRange, Inside>
+fn range_of(
+    text: &str,
+    starts: &LineStarts,
+    enc: Encoding,
+    edit: &TextEdit,
+) -> Result<TextRange, Inside>
+    requires { starts.now ≡ line_starts text.now }
     ensures value { result ≡ range_of text.now enc edit.now }
     ensures within { IfOk result (LiesWithin (length text.now)) }
 {
-    let start = offset(text, enc, edit.start)?;
-    let end = offset(text, enc, edit.end)?;
+    let start = starts.offset(text, enc, edit.start)?;
+    let end = starts.offset(text, enc, edit.end)?;
     Ok(TextRange {
         start: start.min(end),
         end: start.max(end),

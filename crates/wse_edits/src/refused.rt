@@ -10,7 +10,7 @@ pub enum EditsRefused {
     Inside { edit: u64, char_start: usize },
     /// The first two edits that don't fit: no pair has a lower `second`, and none with this `second` a lower `first`.
     Overlap { first: u64, second: u64 },
-    /// There was no memory for the splices.
+    /// There was no memory for the splices, or on the way to them.
     Memory,
 }
 
