@@ -1,5 +1,2 @@
-mod LineLemmas
-mod MemberLemmas
-mod UriLemmas
-mod BelowLemmas
-mod CreateLemmas
+pub mod LineLemmas
+pub mod MemberLemmas

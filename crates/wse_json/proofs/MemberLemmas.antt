@@ -4,7 +4,7 @@ use Rattle.std.specs.List.{list_any}
 use Rattle.std.specs.Map.{keys_of}
 use Rattle.serde_json.specs.View.{items_view, members_view}
 use Rattle.serde_json.specs.declared.value.Value.{Value}
-use Rattle.wse_json.specs.Create.{names_of, the_item}
+use Rattle.wse_json.specs.Members.{names_of, the_item}
 
 pub list_any-map : {X Y : Type 0} (p : Y → Bool) (f : X → Y) (xs : List X) → list_any p (map f xs) ≡ list_any (λ x. p (f x)) xs
 list_any-map p f [] = refl
@@ -14,7 +14,7 @@ pub names_of-members_view : (es : List (String Global × Value)) → names_of (m
 names_of-members_view [] = refl
 names_of-members_view (e ∷ es) = ap (λ names. string_bytes e.0 ∷ names) (names_of-members_view es)
 
-pub not_one : (vs : List Value) → length vs ≢ 1 → None ≡ the_item (items_view vs)
+pub not_one : (vs : List Value) → length vs ≢ 1 → the_item (items_view vs) ≡ None
 not_one [] other = refl
 not_one (v ∷ []) other = absurd (other refl)
 not_one (v ∷ w ∷ vs) other = refl

@@ -1,2 +1,3 @@
-pub mod Uri
-pub mod Create
+pub mod Members
+pub mod One
+pub mod Seen

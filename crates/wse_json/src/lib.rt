@@ -1,8 +1,10 @@
 // Commands as lines of JSON.
 #![tactic(auto)]
 
-mod create;
-mod uri;
+mod form;
+mod members;
+mod one;
+#[cfg(test)]
+mod tests;
 
-pub use create::{CreateRefused, read_create};
-pub use uri::plain_root;
+pub use one::{OneRefused, read_one};

@@ -5,7 +5,7 @@ use Rattle.std.proofs.lemmas.List.Folds.{list_all-map}
 use Rattle.serde_json.specs.Find.{get}
 use Rattle.serde_json.specs.View.{view}
 use borrow.Author.Tests.{tests}
-use Rattle.wse_json.proofs.create.has_all.Goals as goal
+use Rattle.wse_json.proofs.members.has_all.Goals as goal
 
 pub returns : goal.returns
 returns c =

@@ -1,6 +1,6 @@
 use Rattle.std.proofs.Common.{inr, refl, rules}
 use Rattle.wse_json.proofs.LineLemmas.{reads_as, not_read}
-use Rattle.wse_json.proofs.create.parse.Goals as goal
+use Rattle.wse_json.proofs.one.parse.Goals as goal
 
 pub returns-in-Ok-clause-ok : goal.returns-in-Ok-clause-ok
 returns-in-Ok-clause-ok c = reads_as _ _ c.in-Ok.ensures.ok.0 c.in-Ok.ensures.ok.1

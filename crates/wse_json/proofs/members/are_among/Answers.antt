@@ -4,10 +4,10 @@ use Rattle.std.specs.Map.{keys_of}
 use Rattle.std.proofs.lemmas.Iterator.Consumers.{YieldsList-from_rest}
 use Rattle.std.proofs.lemmas.Iterator.Search.{all_from_yields_List}
 use Rattle.std.proofs.lemmas.List.Folds.{list_all-map}
-use Rattle.wse_json.specs.Create.{is_among}
+use Rattle.wse_json.specs.Members.{is_among}
 use Rattle.wse_json.proofs.MemberLemmas.{names_of-members_view}
 use borrow.Author.Tests.{tests}
-use Rattle.wse_json.proofs.create.are_among.Goals as goal
+use Rattle.wse_json.proofs.members.are_among.Goals as goal
 
 pub returns : goal.returns
 returns c =
