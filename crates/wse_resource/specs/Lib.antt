@@ -1,0 +1,5 @@
+pub mod Table
+pub mod After
+pub mod Operated
+pub mod Course
+pub mod Plan
