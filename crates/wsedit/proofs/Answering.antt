@@ -9,57 +9,58 @@ use Rattle.wse_io.specs.declared.lines.Ahead.TheVariants.{Failed}
 use Rattle.wse_io.specs.declared.lines.LineFault.{LineFault}
 use Rattle.wse_io.specs.declared.lines.LineFault.TheVariants.{Read, InputLimit, Memory}
 use Rattle.wse_io.proofs.StreamLemmas.{adds_none, adds_more, bytes_of-nil, bytes_of-append}
+use Rattle.wsedit.specs.declared.setting.Setting.{Setting}
 use Rattle.wsedit.specs.Machine.{State, after, transcript, state_after}
-use Rattle.wsedit.specs.Session.{state_of, StandsFor}
+use Rattle.wsedit.specs.Session.{state_of, StandsFor, IsSound}
 use Rattle.wsedit.specs.Run.{Ran, Whole, end_of_lines}
 use Rattle.wsedit.specs.declared.session.Session.{Session}
-use Rattle.wsedit.proofs.Transcript.{transcript-nil, transcript-append, state_after-nil, state_after-one, state_after-append, done_after}
+use Rattle.wsedit.proofs.Transcript.{transcript-nil, transcript-append, state_after-nil, state_after-one, state_after-append}
 use Rattle.wsedit.proofs.RunLemmas.{ran_none, ran_more, ran_wider}
 
 -- the lines done so far are all answered
-pub record Answers {D : Type 0} (tells : Type 0) (stands : D → Standing) (moment : D → ℕ) (pieces_old pieces_now : Option (List Piece)) (began : ℕ) (session : Session D) (root : List ℕ) (s : State) (n : ℕ) (done : List (List ℕ)) (added : List Piece) : Type 0 where
+pub record Answers {D : Type 0} (tells : Type 0) (stands : D → Standing) (moment : D → ℕ) (pieces_old pieces_now : Option (List Piece)) (began : ℕ) (session : Session D) (setting : Setting) (s : State) (n : ℕ) (done : List (List ℕ)) (added : List Piece) : Type 0 where
   pub adds : Adds pieces_old pieces_now added
-  pub ran : Ran tells ⊥ began (moment session.disk) (stands session.disk) root 1 s done added
-  pub whole : bytes_of added ≡ transcript root 1 s done
-  pub state : state_of session ≡ state_after root s done
+  pub ran : Ran tells ⊥ began (moment session.disk) (stands session.disk) setting 1 s done added
+  pub whole : bytes_of added ≡ transcript setting 1 s done
+  pub state : state_of session ≡ state_after setting s done
   pub agrees : tells → StandsFor (stands session.disk) (state_of session)
   pub number : n ≡ 1 + length done
-  pub few : session.done ≤ length done
+  pub sound : IsSound setting.serial (state_of session)
 
 module _ {D : Type 0} (tells : Type 0) (stands : D → Standing) (moment : D → ℕ) where
-  pub answers_none : (pieces : Option (List Piece)) (session : Session D) (root : List ℕ) → session.done ≡ 0 → (tells → StandsFor (stands session.disk) (state_of session))
-      → Answers tells stands moment pieces pieces (moment session.disk) session root (state_of session) 1 [] []
-  answers_none pieces session root none agrees = record {
+  pub answers_none : (pieces : Option (List Piece)) (session : Session D) (setting : Setting) → IsSound setting.serial (state_of session) → (tells → StandsFor (stands session.disk) (state_of session))
+      → Answers tells stands moment pieces pieces (moment session.disk) session setting (state_of session) 1 [] []
+  answers_none pieces session setting sound agrees = record {
     adds = adds_none pieces pieces refl;
-    ran = ran_none tells ⊥ (moment session.disk) (stands session.disk) root 1 (state_of session) agrees;
-    whole = bytes_of-nil ∙ sym (transcript-nil root 1 (state_of session));
-    state = sym (state_after-nil root (state_of session));
+    ran = ran_none tells ⊥ (moment session.disk) (stands session.disk) setting 1 (state_of session) agrees;
+    whole = bytes_of-nil ∙ sym (transcript-nil setting 1 (state_of session));
+    state = sym (state_after-nil setting (state_of session));
     agrees = agrees;
     number = refl;
-    few = omega (arith, none);
+    sound = sound;
   }
 
   -- one line more is answered
-  pub answers_more : (pieces_old pieces_now pieces_new : Option (List Piece)) (began : ℕ) (session session' : Session D) (root : List ℕ) (s : State) (n : ℕ) (done : List (List ℕ)) (line : List ℕ) (ps qs : List Piece)
-      → Answers tells stands moment pieces_old pieces_now began session root s n done ps → Adds pieces_now pieces_new qs
-      → Ran tells ⊥ (moment session.disk) (moment session'.disk) (stands session'.disk) root n (state_of session) (line ∷ []) qs
-      → bytes_of qs ≡ transcript root n (state_of session) (line ∷ []) → state_of session' ≡ after root (state_of session) line → (tells → StandsFor (stands session'.disk) (state_of session'))
-      → Answers tells stands moment pieces_old pieces_new began session' root s (n + 1) (done ++ line ∷ []) (ps ++ qs)
-  answers_more pieces_old pieces_now pieces_new began session session' root s n done line ps qs a adds ran whole next agrees = record {
+  pub answers_more : (pieces_old pieces_now pieces_new : Option (List Piece)) (began : ℕ) (session session' : Session D) (setting : Setting) (s : State) (n : ℕ) (done : List (List ℕ)) (line : List ℕ) (ps qs : List Piece)
+      → Answers tells stands moment pieces_old pieces_now began session setting s n done ps → Adds pieces_now pieces_new qs
+      → Ran tells ⊥ (moment session.disk) (moment session'.disk) (stands session'.disk) setting n (state_of session) (line ∷ []) qs
+      → bytes_of qs ≡ transcript setting n (state_of session) (line ∷ []) → state_of session' ≡ after setting (state_of session) line → IsSound setting.serial (state_of session') → (tells → StandsFor (stands session'.disk) (state_of session'))
+      → Answers tells stands moment pieces_old pieces_new began session' setting s (n + 1) (done ++ line ∷ []) (ps ++ qs)
+  answers_more pieces_old pieces_now pieces_new began session session' setting s n done line ps qs a adds ran whole next sound agrees = record {
     adds = adds_more _ _ _ ps qs a.adds adds;
-    ran = ran_more tells ⊥ ⊥ began (moment session.disk) (moment session'.disk) (stands session.disk) (stands session'.disk) root 1 n s (state_of session) done (line ∷ []) ps qs a.ran a.whole a.number a.state ran;
+    ran = ran_more tells ⊥ ⊥ began (moment session.disk) (moment session'.disk) (stands session.disk) (stands session'.disk) setting 1 n s (state_of session) done (line ∷ []) ps qs a.ran a.whole a.number a.state ran;
     whole = bytes_of-append ps qs ∙ ap (λ l. l ++ bytes_of qs) a.whole
-        ∙ ap (λ l. transcript root 1 s done ++ l) (whole ∙ ap (λ m. transcript root m (state_of session) (line ∷ [])) a.number ∙ ap (λ u. transcript root (1 + length done) u (line ∷ [])) a.state)
-        ∙ sym (transcript-append root 1 s done (line ∷ []));
-    state = next ∙ ap (λ u. after root u line) a.state ∙ sym (state_after-append root s done (line ∷ []) ∙ state_after-one root (state_after root s done) line);
+        ∙ ap (λ l. transcript setting 1 s done ++ l) (whole ∙ ap (λ m. transcript setting m (state_of session) (line ∷ [])) a.number ∙ ap (λ u. transcript setting (1 + length done) u (line ∷ [])) a.state)
+        ∙ sym (transcript-append setting 1 s done (line ∷ []));
+    state = next ∙ ap (λ u. after setting u line) a.state ∙ sym (state_after-append setting s done (line ∷ []) ∙ state_after-one setting (state_after setting s done) line);
     agrees = agrees;
     number = omega (arith, a.number, length-append done (line ∷ []));
-    few = omega (arith, a.few, length-append done (line ∷ []), ap (λ (u : State). u.done) next, done_after root (state_of session) line);
+    sound = sound;
   }
 
 -- the run so far is one over all lines of what was taken
-pub ran_over : (tells failed : Type 0) (began ended : ℕ) (disk : Standing) (root : List ℕ) (s : State) (done more all : List (List ℕ)) (ps : List Piece) → Ran tells failed began ended disk root 1 s done ps → all ≡ done ++ more → Ran tells failed began ended disk root 1 s all ps
-ran_over tells failed began ended disk root s done more all ps a e = subst (λ l. Ran tells failed began ended disk root 1 s l ps) (sym e) (ran_wider tells failed began ended disk root 1 s done more ps a)
+pub ran_over : (tells failed : Type 0) (began ended : ℕ) (disk : Standing) (setting : Setting) (s : State) (done more all : List (List ℕ)) (ps : List Piece) → Ran tells failed began ended disk setting 1 s done ps → all ≡ done ++ more → Ran tells failed began ended disk setting 1 s all ps
+ran_over tells failed began ended disk setting s done more all ps a e = subst (λ l. Ran tells failed began ended disk setting 1 s l ps) (sym e) (ran_wider tells failed began ended disk setting 1 s done more ps a)
 
 -- nothing was left to answer
 pub all_done : (done more all : List (List ℕ)) → all ≡ done ++ more → more ≡ [] → all ≡ done

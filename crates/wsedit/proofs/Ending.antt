@@ -10,6 +10,7 @@ use Rattle.wse_io.specs.declared.lines.Line.TheVariants.{Text, End}
 use Rattle.wse_io.specs.declared.lines.LineFault.{LineFault}
 use Rattle.wse_io.specs.declared.lines.LineFault.TheVariants as line_faults
 use Rattle.wse_io.proofs.StreamLemmas.{takes_more, adds_more}
+use Rattle.wsedit.specs.declared.setting.Setting.{Setting}
 use Rattle.wsedit.specs.Machine.{State, transcript, state_after}
 use Rattle.wsedit.specs.Session.{state_of, StandsFor}
 use Rattle.wsedit.specs.Run.{Ran, Runs, Whole, end_of_lines, end_of_one, fault_disk, IsDiskFault, EndCause}
@@ -47,34 +48,34 @@ whole_one (faults.Disk disk) limit taken over answered rests h = h
 whole_one (faults.Memory disk) limit taken over answered rests h = h
 
 module _ {D : Type 0} (tells : Type 0) (stands : D → Standing) (moment : D → ℕ) (left_old left_now left_new : Option (List ℕ)) (pieces_old pieces_now : Option (List Piece)) (old : D) (session : Session D) (served : Served D)
-    (root : List ℕ) (s : State) (n limit : ℕ) (r r' : Reader) (taken read : List ℕ) (done : List (List ℕ)) (ps : List Piece)
-    (reads : Reads left_old left_now r taken done) (answers : Answers tells stands moment pieces_old pieces_now (moment old) session root s n done ps) (is_limit : r.max_input ≡ limit) where
+    (setting : Setting) (s : State) (n limit : ℕ) (r r' : Reader) (taken read : List ℕ) (done : List (List ℕ)) (ps : List Piece)
+    (reads : Reads left_old left_now r taken done) (answers : Answers tells stands moment pieces_old pieces_now (moment old) session setting s n done ps) (is_limit : r.max_input ≡ limit) where
   -- the run at this end, over these lines
   abbrev pub AtEnd : Bool → Type 0
-  AtEnd over = Runs tells stands moment old served root s limit left_old left_new pieces_old pieces_now (taken ++ read) over ps
+  AtEnd over = Runs tells stands moment old served setting s limit left_old left_new pieces_old pieces_now (taken ++ read) over ps
 
   abbrev pub all_lines : Bool → List (List ℕ)
   all_lines over = lines (take r.max_input (taken ++ read)) over
 
   abbrev pub Answered : Bool → Type 0
-  Answered over = bytes_of ps ≡ transcript root 1 s (all_lines over)
+  Answered over = bytes_of ps ≡ transcript setting 1 s (all_lines over)
 
   abbrev pub RestsAt : Bool → D → Type 0
-  RestsAt over disk = tells → StandsFor (stands disk) (state_after root s (all_lines over))
+  RestsAt over disk = tells → StandsFor (stands disk) (state_after setting s (all_lines over))
 
   at_end : (over : Bool) (result : Result _ _) → Hands left_now left_new r r' read result → served.disk ≡ session.disk → (over ≡ true → IfSome left_new (λ rest. rest ≡ []))
       → all_lines over ≡ done ++ lines (r.held ++ got r read) over → Whole served.end r.max_input (length (taken ++ read)) over (Answered over) (RestsAt over served.disk) → AtEnd over
   at_end over result h same ended all whole =
-      let here : Ran tells ⊥ (moment old) (moment served.disk) (stands served.disk) root 1 s done ps =
-      subst (λ d. Ran tells ⊥ (moment old) (moment d) (stands d) root 1 s done ps) (sym same) answers.ran in
-      let runs : Runs tells stands moment old served root s r.max_input left_old left_new pieces_old pieces_now (taken ++ read) over ps = record {
+      let here : Ran tells ⊥ (moment old) (moment served.disk) (stands served.disk) setting 1 s done ps =
+      subst (λ d. Ran tells ⊥ (moment old) (moment d) (stands d) setting 1 s done ps) (sym same) answers.ran in
+      let runs : Runs tells stands moment old served setting s r.max_input left_old left_new pieces_old pieces_now (taken ++ read) over ps = record {
         takes = takes_more _ _ _ taken read reads.takes h.takes;
         ended = ended;
         adds = answers.adds;
-        ran = ran_over tells (served.end ≡ Disk) (moment old) (moment served.disk) (stands served.disk) root s done _ _ ps (ran_weaker tells ⊥ (served.end ≡ Disk) _ _ _ root 1 s done ps (λ f. absurd f) here) all;
+        ran = ran_over tells (served.end ≡ Disk) (moment old) (moment served.disk) (stands served.disk) setting s done _ _ ps (ran_weaker tells ⊥ (served.end ≡ Disk) _ _ _ setting 1 s done ps (λ f. absurd f) here) all;
         whole = whole;
       } in
-      subst (λ l. Runs tells stands moment old served root s l left_old left_new pieces_old pieces_now (taken ++ read) over ps) is_limit runs
+      subst (λ l. Runs tells stands moment old served setting s l left_old left_new pieces_old pieces_now (taken ++ read) over ps) is_limit runs
 
   -- the reader failed
   pub fault_ends : (fault : LineFault) → Hands left_now left_new r r' read (Err fault) → served.disk ≡ session.disk → served.end ≡ end_of_lines fault → AtEnd (is_over r.ahead)
@@ -87,7 +88,7 @@ module _ {D : Type 0} (tells : Type 0) (stands : D → Standing) (moment : D →
       (counted left_old left_now left_new r r' taken read done reads (Err fault) h)
       (subst (λ t. t ≤ r.max_input + 1) (counted left_old left_now left_new r r' taken read done reads (Err fault) h) h.within)
       (settled fault h)
-      (λ none. answers.whole ∙ ap (transcript root 1 s) (sym (all_done done _ _ all none)))))
+      (λ none. answers.whole ∙ ap (transcript setting 1 s) (sym (all_done done _ _ all none)))))
     where
       settled : (f : LineFault) → Hands left_now left_new r r' read (Err f) → is_over r.ahead ≡ true → r'.ahead ≡ Failed line_faults.Memory
       settled f g o =
@@ -106,8 +107,8 @@ module _ {D : Type 0} (tells : Type 0) (stands : D → Standing) (moment : D →
       (subst (λ e. Whole e r.max_input (length (taken ++ read)) true (Answered true) (RestsAt true served.disk)) (sym is_end) (
         subst (λ k. k ≤ r.max_input) count within,
         refl,
-        answers.whole ∙ ap (transcript root 1 s) (sym is_done),
-        λ told. subst (λ d. StandsFor (stands d) (state_after root s (all_lines true))) (sym same) (subst (λ u. StandsFor (stands session.disk) u) (answers.state ∙ ap (state_after root s) (sym is_done)) (answers.agrees told)),
+        answers.whole ∙ ap (transcript setting 1 s) (sym is_done),
+        λ told. subst (λ d. StandsFor (stands d) (state_after setting s (all_lines true))) (sym same) (subst (λ u. StandsFor (stands session.disk) u) (answers.state ∙ ap (state_after setting s) (sym is_done)) (answers.agrees told)),
       ))
     where
       ended_at : Hands left_now left_new r r' read (Ok End) → IfSome left_new (λ rest. rest ≡ [])
@@ -119,23 +120,23 @@ module _ {D : Type 0} (tells : Type 0) (stands : D → Standing) (moment : D →
 
   -- a line failed
   pub one_ends : (pieces_new : Option (List Piece)) (line : List ℕ) (fault : ServeFault D) (failed : Type 0) (qs : List Piece) → Hands left_now left_new r r' read (Ok (Text line)) → Adds pieces_now pieces_new qs
-      → Ran tells failed (moment session.disk) (moment (fault_disk fault)) (stands (fault_disk fault)) root n (state_of session) (line ∷ []) qs → (failed → served.end ≡ Disk)
+      → Ran tells failed (moment session.disk) (moment (fault_disk fault)) (stands (fault_disk fault)) setting n (state_of session) (line ∷ []) qs → (failed → served.end ≡ Disk)
       → served.disk ≡ fault_disk fault → served.end ≡ end_of_one fault
-      → Runs tells stands moment old served root s limit left_old left_new pieces_old pieces_new (taken ++ read) (is_over r'.ahead) (ps ++ qs)
+      → Runs tells stands moment old served setting s limit left_old left_new pieces_old pieces_new (taken ++ read) (is_over r'.ahead) (ps ++ qs)
   one_ends pieces_new line fault failed qs h adds ran is_disk same is_end =
       let reads' = reads_more left_old left_now left_new r r' taken read done line reads h in
       let all = lines_now left_old left_new r' (taken ++ read) (done ++ line ∷ []) reads' in
-      let joined = ran_more tells ⊥ failed (moment old) (moment session.disk) (moment (fault_disk fault)) (stands session.disk) (stands (fault_disk fault)) root 1 n s (state_of session) done (line ∷ []) ps qs answers.ran answers.whole answers.number answers.state ran in
-      let here : Ran tells (served.end ≡ Disk) (moment old) (moment served.disk) (stands served.disk) root 1 s (done ++ line ∷ []) (ps ++ qs) =
-      subst (λ d. Ran tells (served.end ≡ Disk) (moment old) (moment d) (stands d) root 1 s (done ++ line ∷ []) (ps ++ qs)) (sym same) (ran_weaker tells failed (served.end ≡ Disk) _ _ _ root 1 s _ (ps ++ qs) is_disk joined) in
+      let joined = ran_more tells ⊥ failed (moment old) (moment session.disk) (moment (fault_disk fault)) (stands session.disk) (stands (fault_disk fault)) setting 1 n s (state_of session) done (line ∷ []) ps qs answers.ran answers.whole answers.number answers.state ran in
+      let here : Ran tells (served.end ≡ Disk) (moment old) (moment served.disk) (stands served.disk) setting 1 s (done ++ line ∷ []) (ps ++ qs) =
+      subst (λ d. Ran tells (served.end ≡ Disk) (moment old) (moment d) (stands d) setting 1 s (done ++ line ∷ []) (ps ++ qs)) (sym same) (ran_weaker tells failed (served.end ≡ Disk) _ _ _ setting 1 s _ (ps ++ qs) is_disk joined) in
       let over = is_over r'.ahead in
       let ls = lines (take r'.max_input (taken ++ read)) over in
-      let runs : Runs tells stands moment old served root s r'.max_input left_old left_new pieces_old pieces_new (taken ++ read) over (ps ++ qs) = record {
+      let runs : Runs tells stands moment old served setting s r'.max_input left_old left_new pieces_old pieces_new (taken ++ read) over (ps ++ qs) = record {
         takes = reads'.takes;
         ended = λ o. reads'.over (over_is r'.ahead o);
         adds = adds_more _ _ _ ps qs answers.adds adds;
-        ran = ran_over tells (served.end ≡ Disk) (moment old) (moment served.disk) (stands served.disk) root s (done ++ line ∷ []) _ _ (ps ++ qs) here all;
-        whole = subst (λ e. Whole e r'.max_input (length (taken ++ read)) over (bytes_of (ps ++ qs) ≡ transcript root 1 s ls) (tells → StandsFor (stands served.disk) (state_after root s ls))) (sym is_end)
+        ran = ran_over tells (served.end ≡ Disk) (moment old) (moment served.disk) (stands served.disk) setting s (done ++ line ∷ []) _ _ (ps ++ qs) here all;
+        whole = subst (λ e. Whole e r'.max_input (length (taken ++ read)) over (bytes_of (ps ++ qs) ≡ transcript setting 1 s ls) (tells → StandsFor (stands served.disk) (state_after setting s ls))) (sym is_end)
             (whole_one fault r'.max_input _ _ _ _ (let w = h.within in let k = counted left_old left_now left_new r r' taken read done reads (Ok (Text line)) h in omega (arith, h.limit)));
       } in
-      subst (λ l. Runs tells stands moment old served root s l left_old left_new pieces_old pieces_new (taken ++ read) over (ps ++ qs)) (h.limit ∙ is_limit) runs
+      subst (λ l. Runs tells stands moment old served setting s l left_old left_new pieces_old pieces_new (taken ++ read) over (ps ++ qs)) (h.limit ∙ is_limit) runs

@@ -1,11 +1,13 @@
 -- Runs that begin with a disk that is placed and loaded, and what they say by their status.
 use Rattle.std.proofs.Common.{◌≡◌, ◌⊎◌, inl, inr, ⊎_elim, ℕ, ◌+◌, ◌≤◌, Bool, true, false, List, [], length, take, Option, refl, sym, ap, subst, ◌∙◌, arith}
+use Rattle.wse_path.specs.Tree.{Entries}
 use Rattle.wse_disk.specs.Calls.{Standing}
 use Rattle.wse_io.specs.Stream.{Piece, bytes_of}
 use Rattle.wse_io.specs.Lines.{lines}
 use Rattle.wse_io.proofs.StreamLemmas.{takes_none, adds_none, within_wider}
 use Rattle.wse_io.proofs.LineLemmas.{take-nil, lines-nil}
-use Rattle.wsedit.specs.Machine.{State, transcript, state_after}
+use Rattle.wsedit.specs.declared.setting.Setting.{Setting}
+use Rattle.wsedit.specs.Machine.{State, first_versions, transcript, state_after}
 use Rattle.wsedit.specs.Program.{RunsFrom, StatusCause, IsStatus}
 use Rattle.wsedit.specs.Run.{Runs, Whole, EndCause}
 use Rattle.wsedit.specs.Session.{StandsFor}
@@ -16,6 +18,10 @@ use Rattle.wsedit.specs.declared.serve.Served.{Served}
 use Rattle.wsedit.specs.declared.status.Status.{Status}
 use Rattle.wsedit.specs.declared.status.Status.TheVariants as statuses
 use Rattle.wsedit.proofs.RunLemmas.{ran_silent, holds_none, holds_weaker}
+
+-- the state before the first line, over these files
+abbrev pub first_state : Entries → State
+first_state files = record { files = files; versions = first_versions files; done = 0 }
 
 no_lines : (limit : ℕ) → lines (take limit []) false ≡ []
 no_lines limit = ap (λ l. lines l false) (take-nil limit) ∙ lines-nil false
@@ -30,20 +36,20 @@ whole_none (InputLimit n) limit answered rests is = absurd (⊎_elim (λ e. cc) 
 
 module _ {D : Type 0} (tells : Type 0) (stands : D → Standing) (moment : D → ℕ) where
   -- the run ended before a line was read
-  pub unstarted : (old : D) (served : Served D) (root : List ℕ) (s : State) (limit : ℕ) (left : Option (List ℕ)) (pieces : Option (List Piece)) → (served.end ≡ Disk) ⊎ (served.end ≡ Memory) → moment old ≤ moment served.disk
-      → (tells → StandsFor (stands served.disk) s) → Runs tells stands moment old served root s limit left left pieces pieces [] false []
-  unstarted old served root s limit left pieces is later same = record {
+  pub unstarted : (old : D) (served : Served D) (setting : Setting) (s : State) (limit : ℕ) (left : Option (List ℕ)) (pieces : Option (List Piece)) → (served.end ≡ Disk) ⊎ (served.end ≡ Memory) → moment old ≤ moment served.disk
+      → (tells → StandsFor (stands served.disk) s) → Runs tells stands moment old served setting s limit left left pieces pieces [] false []
+  unstarted old served setting s limit left pieces is later same = record {
     takes = takes_none left left refl;
     ended = λ o. cc;
     adds = adds_none pieces pieces refl;
-    ran = ran_silent tells (served.end ≡ Disk) (moment old) (moment served.disk) (stands served.disk) root 1 s _ later (λ told. holds_none (served.end ≡ Disk) root 1 s _ (stands served.disk) (same told));
+    ran = ran_silent tells (served.end ≡ Disk) (moment old) (moment served.disk) (stands served.disk) setting 1 s _ later (λ told. holds_none (served.end ≡ Disk) setting 1 s _ (stands served.disk) (same told));
     whole = whole_none served.end limit _ _ is;
   }
 
   -- a run from a later moment of the disk is one from an earlier
-  pub runs_earlier : (old mid : D) (served : Served D) (root : List ℕ) (s : State) (limit : ℕ) (left_old left_new : Option (List ℕ)) (pieces_old pieces_new : Option (List Piece)) (taken : List ℕ) (over : Bool) (added : List Piece)
-      → moment old ≤ moment mid → Runs tells stands moment mid served root s limit left_old left_new pieces_old pieces_new taken over added → Runs tells stands moment old served root s limit left_old left_new pieces_old pieces_new taken over added
-  runs_earlier old mid served root s limit left_old left_new pieces_old pieces_new taken over added le r = record {
+  pub runs_earlier : (old mid : D) (served : Served D) (setting : Setting) (s : State) (limit : ℕ) (left_old left_new : Option (List ℕ)) (pieces_old pieces_new : Option (List Piece)) (taken : List ℕ) (over : Bool) (added : List Piece)
+      → moment old ≤ moment mid → Runs tells stands moment mid served setting s limit left_old left_new pieces_old pieces_new taken over added → Runs tells stands moment old served setting s limit left_old left_new pieces_old pieces_new taken over added
+  runs_earlier old mid served setting s limit left_old left_new pieces_old pieces_new taken over added le r = record {
     takes = r.takes;
     ended = r.ended;
     adds = r.adds;
@@ -71,13 +77,13 @@ disk_code : (end : ServeEnd) → end ≡ Disk → code_of (status_of end) ≡ 5
 disk_code end e = ap (λ x. code_of (status_of x)) e
 
 -- a run by its status
-runs_from : {D : Type 0} (tells : Type 0) (stands : D → Standing) (moment : D → ℕ) (old : D) (served : Served D) (status : Status) (root : List ℕ) (s : State) (limit : ℕ) (left_old left_new : Option (List ℕ))
-    (pieces_old pieces_new : Option (List Piece)) (taken : List ℕ) (over : Bool) (added : List Piece) → status ≡ status_of served.end → Runs tells stands moment old served root s limit left_old left_new pieces_old pieces_new taken over added
-    → RunsFrom tells stands moment old served.disk (code_of status) root s limit left_old left_new pieces_old pieces_new taken over added
-runs_from tells stands moment old served status root s limit left_old left_new pieces_old pieces_new taken over added is r =
+pub runs_from : {D : Type 0} (tells : Type 0) (stands : D → Standing) (moment : D → ℕ) (old : D) (served : Served D) (status : Status) (setting : Setting) (s : State) (limit : ℕ) (left_old left_new : Option (List ℕ))
+    (pieces_old pieces_new : Option (List Piece)) (taken : List ℕ) (over : Bool) (added : List Piece) → status ≡ status_of served.end → Runs tells stands moment old served setting s limit left_old left_new pieces_old pieces_new taken over added
+    → RunsFrom tells stands moment old served.disk (code_of status) setting s limit left_old left_new pieces_old pieces_new taken over added
+runs_from tells stands moment old served status setting s limit left_old left_new pieces_old pieces_new taken over added is r =
     let ls = lines (take limit taken) over in
-    let by = by_status served.end limit (length taken) over (bytes_of added ≡ transcript root 1 s ls) (tells → StandsFor (stands served.disk) (state_after root s ls)) r.whole in
-    let from : RunsFrom tells stands moment old served.disk (code_of (status_of served.end)) root s limit left_old left_new pieces_old pieces_new taken over added = record {
+    let by = by_status served.end limit (length taken) over (bytes_of added ≡ transcript setting 1 s ls) (tells → StandsFor (stands served.disk) (state_after setting s ls)) r.whole in
+    let from : RunsFrom tells stands moment old served.disk (code_of (status_of served.end)) setting s limit left_old left_new pieces_old pieces_new taken over added = record {
       takes = r.takes;
       is_over = r.ended;
       adds = r.adds;
@@ -88,18 +94,9 @@ runs_from tells stands moment old served status root s limit left_old left_new p
       passed = by.passed;
       only_passed = by.only_passed;
       never_more = by.never_more;
-      holds = λ told. holds_weaker (served.end ≡ Disk) (code_of (status_of served.end) ≡ 5) root 1 s ls (bytes_of added) (stands served.disk) (disk_code served.end) (r.ran.holds told);
+      holds = λ told. holds_weaker (served.end ≡ Disk) (code_of (status_of served.end) ≡ 5) setting 1 s ls (bytes_of added) (stands served.disk) (disk_code served.end) (r.ran.holds told);
     } in
-    subst (λ x. RunsFrom tells stands moment old served.disk (code_of x) root s limit left_old left_new pieces_old pieces_new taken over added) (sym is) from
-
--- the same below a root that is spelled in another way
-pub runs_from_root : {D : Type 0} (tells : Type 0) (stands : D → Standing) (moment : D → ℕ) (old : D) (served : Served D) (status : Status) (root root' : List ℕ) (s : State) (limit : ℕ) (left_old left_new : Option (List ℕ))
-    (pieces_old pieces_new : Option (List Piece)) (taken : List ℕ) (over : Bool) (added : List Piece) → root' ≡ root → status ≡ status_of served.end
-    → Runs tells stands moment old served root s limit left_old left_new pieces_old pieces_new taken over added
-    → RunsFrom tells stands moment old served.disk (code_of status) root' s limit left_old left_new pieces_old pieces_new taken over added
-runs_from_root tells stands moment old served status root root' s limit left_old left_new pieces_old pieces_new taken over added same is r =
-    subst (λ t. RunsFrom tells stands moment old served.disk (code_of status) t s limit left_old left_new pieces_old pieces_new taken over added) (sym same)
-    (runs_from tells stands moment old served status root s limit left_old left_new pieces_old pieces_new taken over added is r)
+    subst (λ x. RunsFrom tells stands moment old served.disk (code_of x) setting s limit left_old left_new pieces_old pieces_new taken over added) (sym is) from
 
 -- no end of serving has the status of words that aren't understood
 pub not_words : (end : ServeEnd) → code_of (status_of end) ≡ 2 → ⊥

@@ -1,11 +1,11 @@
 -- Words without their last slashes, and words below a folder's.
-use Rattle.std.proofs.Common.{◌≡◌, ◌≢◌, ℕ, ◌+◌, ◌<◌, ◌≤◌, Bool, true, false, cond, ◌&&◌, List, [], ◌∷◌, ◌++◌, length, map, take, get_or, nat_eq, refl, sym, ap, ◌∙◌, arith}
+use Rattle.std.proofs.Common.{None, ◌≡◌, ◌≢◌, ℕ, ◌+◌, ◌<◌, ◌≤◌, Bool, true, false, cond, ◌&&◌, List, [], ◌∷◌, ◌++◌, length, map, take, get_or, nat_eq, refl, sym, ap, ◌∙◌, arith}
 use Rattle.std.specs.Prelude.{◌==◌}
 use Rattle.std.specs.List.{list_all, starts_with}
 use Rattle.std.proofs.lemmas.List.{take_more}
 use Rattle.std.proofs.lemmas.Bool.{ne_eqb}
 use Rattle.std.proofs.lemmas.Bool.Decides.{nat_tests}
-use Rattle.wsedit.specs.Words.{without_slashes, are_run_words}
+use Rattle.wsedit.specs.Words.{without_slashes, run_root}
 
 all_behind : (p : ℕ → Bool) (xs : List ℕ) (b : ℕ) → list_all p (xs ++ b ∷ []) ≡ (list_all p xs && p b)
 all_behind p [] b = elim (p b) as (λ t. (t && true) ≡ t) [ true ↦ refl | false ↦ refl ]
@@ -68,14 +68,14 @@ below_by folder word l e = below_is folder word l ∙ ap (λ b. nat_eq b 47 && s
 pub not_below_by : (folder word : List ℕ) → length folder < length word → get_or word (length folder) 0 ≢ 47 → starts_with nat_eq word (folder ++ 47 ∷ []) ≡ false
 not_below_by folder word l ne = below_is folder word l ∙ ap (λ t. t && starts_with nat_eq word folder) (ne_eqb (get_or word (length folder) 0) 47 ne)
 
-pub few_words : (ws : List (List ℕ)) → length ws < 4 → are_run_words ws ≡ false
+pub few_words : (ws : List (List ℕ)) → length ws < 4 → run_root ws ≡ None
 few_words [] l = refl
 few_words (a ∷ []) l = refl
 few_words (a ∷ b ∷ []) l = refl
 few_words (a ∷ b ∷ d ∷ []) l = refl
 few_words (a ∷ b ∷ d ∷ e ∷ ws) l = absurd (omega arith)
 
-pub many_words : (ws : List (List ℕ)) → 5 ≤ length ws → are_run_words ws ≡ false
+pub many_words : (ws : List (List ℕ)) → 5 ≤ length ws → run_root ws ≡ None
 many_words [] l = refl
 many_words (a ∷ []) l = refl
 many_words (a ∷ b ∷ []) l = refl

@@ -1,4 +1,3 @@
-pub mod Create
 pub mod Machine
 pub mod Program
 pub mod Reply

@@ -1,15 +1,16 @@
 -- A run over lines: what was emitted, and what the disk holds.
-use Rattle.std.specs.Prelude.{◌≡◌, ◌⊎◌, ℕ, ◌+◌, ◌≤◌, Bool, true, false, List, [], ◌∷◌, length, take, drop, Option, IfSome, Result, Ok, Err}
+use Rattle.std.specs.Prelude.{◌≡◌, ◌⊎◌, ⊤, ℕ, ◌+◌, ◌≤◌, Bool, true, false, List, [], ◌∷◌, length, take, drop, Option, IfSome, Result, Ok, Err}
 use Rattle.wse_path.specs.Causes.{Rose}
-use Rattle.wse_path.specs.Path.{Path}
+use Rattle.wse_path.specs.declared.operation.ResourceOp.{ResourceOp}
 use Rattle.wse_disk.specs.Calls.{Standing}
 use Rattle.wse_io.specs.Stream.{Piece, Adds, Takes, IsPrefix, bytes_of, Within}
 use Rattle.wse_io.specs.Lines.{lines}
 use Rattle.wse_io.specs.declared.lines.LineFault.{LineFault}
 use Rattle.wse_io.specs.declared.lines.LineFault.TheVariants as line_faults
-use Rattle.wse_json.specs.Create.{created}
+use Rattle.wse_json.specs.One.{one}
+use Rattle.wsedit.specs.declared.setting.Setting.{Setting}
 use Rattle.wsedit.specs.Machine.{State, transcript, state_after}
-use Rattle.wsedit.specs.Session.{StandsFor, MayDifferAt}
+use Rattle.wsedit.specs.Session.{StandsFor, IsTornBy}
 use Rattle.wsedit.specs.declared.session.Session.{Session}
 use Rattle.wsedit.specs.declared.session.Stopped.{Stopped}
 use Rattle.wsedit.specs.declared.session.Stopped.TheVariants as stopped
@@ -19,31 +20,31 @@ use Rattle.wsedit.specs.declared.serve.ServeEnd.{ServeEnd}
 use Rattle.wsedit.specs.declared.serve.ServeEnd.TheVariants.{Done, Read, Write, Disk, Memory, InputLimit}
 use Rattle.wsedit.specs.declared.serve.Served.{Served}
 
--- What is read is the tree of the state, but for the path that the next line creates.
-abbrev pub IsTorn : List ℕ → State → List (List ℕ) → Standing → Type 0
-IsTorn root s [] disk = ⊥
-IsTorn root s (line ∷ rest) disk = (p : Path) × (created root line ≡ Ok p) × MayDifferAt p s disk
+-- What is read is the tree of the state, but for paths that the next line changes.
+abbrev pub IsTorn : Setting → State → List (List ℕ) → Standing → Type 0
+IsTorn setting s [] disk = ⊥
+IsTorn setting s (line ∷ rest) disk = (op : ResourceOp) × (one setting.root line ≡ Ok op) × IsTornBy s op disk
 
 -- What is read is the tree after a front of the lines, and what is out are answers to this front. Where the disk failed in
--- the line behind it (`failed`), the path of that line may differ.
-pub record HoldsFront (failed : Type 0) (root : List ℕ) (n : ℕ) (s : State) (ls : List (List ℕ)) (out : List ℕ) (disk : Standing) : Type 0 where
+-- the line behind it (`failed`), the paths that this line changes may differ.
+pub record HoldsFront (failed : Type 0) (setting : Setting) (n : ℕ) (s : State) (ls : List (List ℕ)) (out : List ℕ) (disk : Standing) : Type 0 where
   pub front : ℕ
   pub within : front ≤ length ls
-  pub answered : IsPrefix out (transcript root n s (take front ls))
-  pub left : StandsFor disk (state_after root s (take front ls)) ⊎ (failed × IsTorn root (state_after root s (take front ls)) (drop front ls) disk)
+  pub answered : IsPrefix out (transcript setting n s (take front ls))
+  pub left : StandsFor disk (state_after setting s (take front ls)) ⊎ (failed × IsTorn setting (state_after setting s (take front ls)) (drop front ls) disk)
 
 -- A run from one moment of a disk to another, over lines from number n on.
-pub record Ran (tells failed : Type 0) (began ended : ℕ) (disk : Standing) (root : List ℕ) (n : ℕ) (s : State) (ls : List (List ℕ)) (added : List Piece) : Type 0 where
+pub record Ran (tells failed : Type 0) (began ended : ℕ) (disk : Standing) (setting : Setting) (n : ℕ) (s : State) (ls : List (List ℕ)) (added : List Piece) : Type 0 where
   pub later : began ≤ ended
   -- What is emitted is a front of the answers.
-  pub output : IsPrefix (bytes_of added) (transcript root n s ls)
+  pub output : IsPrefix (bytes_of added) (transcript setting n s ls)
   pub times : Within began ended added
-  pub holds : tells → HoldsFront failed root n s ls (bytes_of added) disk
+  pub holds : tells → HoldsFront failed setting n s ls (bytes_of added) disk
 
 -- What a line that stopped leaves on a disk that tells.
-abbrev pub LeavesBehind : {D : Type 0} → (D → Standing) → List ℕ → State → List ℕ → Stopped D → Type 0
-LeavesBehind stands root s line (stopped.Disk disk) = IsTorn root s (line ∷ []) (stands disk)
-LeavesBehind stands root s line (stopped.Memory disk) = StandsFor (stands disk) s
+abbrev pub LeavesBehind : {D : Type 0} → (D → Standing) → Setting → State → List ℕ → Stopped D → Type 0
+LeavesBehind stands setting s line (stopped.Disk disk) = IsTorn setting s (line ∷ []) (stands disk)
+LeavesBehind stands setting s line (stopped.Memory disk) = StandsFor (stands disk) s
 
 -- The disk that a fault hands back.
 abbrev pub fault_disk : {D : Type 0} → ServeFault D → D
@@ -72,6 +73,17 @@ OneCause count old sink_old sink_new (Ok session) = (sink_old ≤ sink_new) × (
 OneCause count old sink_old sink_new (Err (faults.Write disk)) = Rose sink_old sink_new × (sink_old ≤ sink_new) × (count old ≤ count disk)
 OneCause count old sink_old sink_new (Err (faults.Disk disk)) = Rose (count old) (count disk) × (sink_old ≤ sink_new) × (count old ≤ count disk)
 OneCause count old sink_old sink_new (Err (faults.Memory disk)) = (sink_old ≤ sink_new) × (count old ≤ count disk)
+
+-- After a line nothing is pending where nothing was before it, unless the disk failed.
+abbrev pub OneLasts : {D : Type 0} → (D → Standing) → D → Result (Session D) (ServeFault D) → Type 0
+OneLasts stands old (Ok session) = (stands old).pending ≡ false → (stands session.disk).pending ≡ false
+OneLasts stands old (Err (faults.Write disk)) = (stands old).pending ≡ false → (stands disk).pending ≡ false
+OneLasts stands old (Err (faults.Disk disk)) = ⊤
+OneLasts stands old (Err (faults.Memory disk)) = (stands old).pending ≡ false → (stands disk).pending ≡ false
+
+-- Nothing is pending at the end where nothing was at the start, unless the disk failed.
+abbrev pub Lasts : Standing → Standing → Type 0 → Type 0
+Lasts old new failed = old.pending ≡ false → failed ⊎ (new.pending ≡ false)
 
 abbrev pub end_of_lines : LineFault → ServeEnd
 end_of_lines line_faults.Read = Read
@@ -102,12 +114,12 @@ Whole Disk limit taken over answered rests = taken ≤ limit + 1
 Whole Memory limit taken over answered rests = taken ≤ limit + 1
 
 -- The run over a stream: its lines are those of the first `limit` bytes that were taken.
-pub record Runs {D : Type 0} (tells : Type 0) (stands : D → Standing) (moment : D → ℕ) (old : D) (served : Served D) (root : List ℕ) (s : State) (limit : ℕ)
+pub record Runs {D : Type 0} (tells : Type 0) (stands : D → Standing) (moment : D → ℕ) (old : D) (served : Served D) (setting : Setting) (s : State) (limit : ℕ)
     (left_old left_new : Option (List ℕ)) (pieces_old pieces_new : Option (List Piece)) (taken : List ℕ) (over : Bool) (added : List Piece) : Type 0 where
   pub takes : Takes left_old left_new taken
   pub ended : over ≡ true → IfSome left_new (λ rest. rest ≡ [])
   pub adds : Adds pieces_old pieces_new added
-  pub ran : Ran tells (served.end ≡ Disk) (moment old) (moment served.disk) (stands served.disk) root 1 s (lines (take limit taken) over) added
+  pub ran : Ran tells (served.end ≡ Disk) (moment old) (moment served.disk) (stands served.disk) setting 1 s (lines (take limit taken) over) added
   pub whole : Whole served.end limit (length taken) over
-      (bytes_of added ≡ transcript root 1 s (lines (take limit taken) over))
-      (tells → StandsFor (stands served.disk) (state_after root s (lines (take limit taken) over)))
+      (bytes_of added ≡ transcript setting 1 s (lines (take limit taken) over))
+      (tells → StandsFor (stands served.disk) (state_after setting s (lines (take limit taken) over)))

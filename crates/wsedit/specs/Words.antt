@@ -1,8 +1,10 @@
 -- The words of the command line. All of this is this project's own rule.
-use Rattle.std.specs.Prelude.{ℕ, Bool, false, not, ◌&&◌, ◌||◌, ◌==◌, codes, List, [], ◌∷◌, ◌++◌, map, String, string_bytes, nat_eq, if◌then◌else◌}
+use Rattle.std.specs.Prelude.{ℕ, Bool, false, not, ◌&&◌, ◌||◌, ◌==◌, codes, List, [], ◌∷◌, ◌++◌, map, String, string_bytes, nat_eq, Option, None, if◌then◌else◌}
 use Rattle.std.specs.List.{list_all, starts_with}
+use Rattle.std.specs.Result.{result_ok}
 use Rattle.std.specs.Str.{bytes_eq}
-use Rattle.wse_json.specs.Uri.{is_plain_root}
+use Rattle.url.specs.Parts.{Parts}
+use Rattle.wse_uri.specs.FileUrl.{file_url}
 
 -- The words as texts.
 abbrev pub texts_of : {A : Type 0} → List (String A) → List (List ℕ)
@@ -23,16 +25,15 @@ abbrev pub lies_outside : List ℕ → List ℕ → Bool
 lies_outside tree store =
     not (bytes_eq (without_slashes store) (without_slashes tree) || starts_with nat_eq (without_slashes store) (without_slashes tree ++ 47 ∷ []))
 
--- TREE, STORE and ROOT as `run` takes them.
-abbrev pub are_understood : List ℕ → List ℕ → List ℕ → Bool
-are_understood tree store root = is_place tree && is_place store && lies_outside tree store && is_plain_root root
+-- TREE and STORE as `run` takes them.
+abbrev pub are_places : List ℕ → List ℕ → Bool
+are_places tree store = is_place tree && is_place store && lies_outside tree store
 
--- The words are `run TREE STORE ROOT`.
-abbrev pub are_run_words : List (List ℕ) → Bool
-are_run_words (command ∷ tree ∷ store ∷ root ∷ []) = bytes_eq command (codes "run") && are_understood tree store root
-are_run_words words = false
+-- ROOT as `run` takes it: a file URL without host, query and fragment.
+abbrev pub root_of : List ℕ → Option Parts
+root_of text = result_ok (file_url text)
 
--- ROOT, where the words have one.
-abbrev pub root_in : List (List ℕ) → List ℕ
-root_in (command ∷ tree ∷ store ∷ root ∷ more) = root
-root_in words = []
+-- The root, where the words are `run TREE STORE ROOT`.
+abbrev pub run_root : List (List ℕ) → Option Parts
+run_root (command ∷ tree ∷ store ∷ root ∷ []) = if bytes_eq command (codes "run") && are_places tree store then root_of root else None
+run_root words = None

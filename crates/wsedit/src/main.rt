@@ -1,16 +1,18 @@
 // A workspace edit engine: lines of JSON come in, answers go out, and a folder tree is changed.
 #![tactic(auto)]
 
-mod create;
+mod load;
 mod program;
 mod reply;
 mod serve;
 mod session;
+mod setting;
 mod status;
 mod words;
+mod write;
 
 use crate::status::Status;
-pub use program::{Ended, run, run_within};
+pub use program::{Bounds, Ended, run, run_within};
 use std::env;
 use std::process::ExitCode;
 use std::rt::Env;

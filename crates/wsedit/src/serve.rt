@@ -1,16 +1,19 @@
 // Lines in, answers out.
-ghost use Rattle.std.specs.Prelude.{◌≡◌, ◌^◌, ◌+◌, ◌<◌, ◌≤◌, ◌∷◌, [], List, ℕ, Bool, IfOk, IfErr, OnOk};
+ghost use Rattle.std.specs.Prelude.{◌≡◌, ◌^◌, ◌≤◌, ◌∷◌, [], List, ℕ, Bool, IfOk, IfErr, OnOk};
+ghost use Rattle.wse_path.specs.Limits.{standard};
+ghost use Rattle.wse_uri.specs.FileUrl.{IsPlainFileUrl};
 ghost use Rattle.wse_io.specs.Stream.{Piece, Adds, bytes_of};
 ghost use Rattle.wsedit.specs.Machine.{reply, after, transcript};
-ghost use Rattle.wsedit.specs.Session.{state_of, StandsFor, disk_after, stopped_disk, StepCause};
-ghost use Rattle.wsedit.specs.Run.{LeavesBehind, Ran, Runs, one_disk, fault_disk, IsDiskFault, fault_of, OneCause, end_of_lines, end_of_one, EndCause};
+ghost use Rattle.wsedit.specs.Session.{state_of, StandsFor, IsSound, disk_after, stopped_disk, StepCause, StepLasts};
+ghost use Rattle.wsedit.specs.Run.{LeavesBehind, Ran, Runs, one_disk, fault_disk, IsDiskFault, fault_of, OneCause, OneLasts, Lasts, end_of_lines, end_of_one, EndCause};
 
 use crate::reply::{Reply, reply_text};
 use crate::session::{Session, Stopped};
+use crate::setting::Setting;
 use std::alloc::Global;
 use wse_disk::Disk;
 use wse_io::{Line, LineFault, Lines, Sink, Source, WriteFailed, emit_all};
-use wse_json::{CreateRefused, read_create};
+use wse_json::{OneRefused, read_one};
 use wse_path::Memory;
 
 /// Why a line wasn't answered. The disk is handed back.
@@ -51,23 +54,28 @@ pub struct Served<D: Disk> {
 fn perform<D: Disk>(
     alloc: Global,
     session: Session<D>,
-    root: &str,
+    setting: &Setting,
     line: &[u8],
 ) -> Result<(Session<D>, Reply), Stopped<D>>
     requires agrees { D.tells → StandsFor (D.stands session.disk) (state_of session) }
-    requires countable { session.done + 1 < 2 ^ 64 }
-    ensures step { IfOk result (λ x. (state_of x.0 ≡ after root.now (state_of session) line.now)
-        × (x.1 ≡ reply root.now (state_of session) line.now)) }
+    requires sound { IsSound setting.now.serial (state_of session) }
+    requires root { IsPlainFileUrl setting.now.root }
+    requires bounded { setting.now.serial ≤ standard.serial }
+    ensures step { IfOk result (λ x. (state_of x.0 ≡ after setting.now (state_of session) line.now)
+        × (x.1 ≡ reply setting.now (state_of session) line.now)) }
+    ensures sound { IfOk result (λ x. IsSound setting.now.serial (state_of x.0)) }
     ensures agrees { D.tells → IfOk result (λ x. StandsFor (D.stands x.0.disk) (state_of x.0)) }
-    ensures left { D.tells → IfErr result (LeavesBehind D.stands root.now (state_of session) line.now) }
+    ensures left { D.tells → IfErr result (LeavesBehind D.stands setting.now (state_of session) line.now) }
+    ensures lasts { D.tells → StepLasts D.stands session.disk result }
     ensures later { D.moment_of session.disk ≤ D.moment_of (disk_after result) }
     ensures cause { StepCause D.faults session.disk result }
 {
-    match read_create(alloc, root, line) {
-        Ok(path) => session.create(alloc, path),
-        Err(CreateRefused::NotJson) => Ok((session, Reply::NotJson)),
-        Err(CreateRefused::NotBuilt) => Ok((session, Reply::NotBuilt)),
-        Err(CreateRefused::Memory) => Err(Stopped::Memory(session.into_disk())),
+    match read_one(alloc, &setting.root, line) {
+        Ok(op) => session.operate(alloc, &op, setting.serial),
+        Err(OneRefused::NotJson) => Ok((session, Reply::NotJson)),
+        Err(OneRefused::NotBuilt) => Ok((session, Reply::NotBuilt)),
+        Err(OneRefused::Uri { pointer, why }) => Ok((session, Reply::Uri { pointer, why })),
+        Err(OneRefused::Memory) => Err(Stopped::Memory(session.into_disk())),
     }
 }
 
@@ -85,22 +93,26 @@ fn into_fault<D: Disk>(stopped: Stopped<D>) -> ServeFault<D>
 fn serve_one<K: Sink, D: Disk>(
     alloc: Global,
     session: Session<D>,
-    root: &str,
+    setting: &Setting,
     n: u64,
     line: &[u8],
     out: &mut K,
 ) -> Result<Session<D>, ServeFault<D>>
     requires agrees { D.tells → StandsFor (D.stands session.disk) (state_of session) }
-    requires countable { session.done + 1 < 2 ^ 64 }
+    requires sound { IsSound setting.now.serial (state_of session) }
+    requires root { IsPlainFileUrl setting.now.root }
+    requires bounded { setting.now.serial ≤ standard.serial }
     ensures run { (added : List Piece) × Adds (K.pieces out.old) (K.pieces out.new) added
         × Ran D.tells (IsDiskFault result) (D.moment_of session.disk) (D.moment_of (one_disk result))
-        (D.stands (one_disk result)) root.now n (state_of session) (line.now ∷ []) added
-        × OnOk result (bytes_of added ≡ transcript root.now n (state_of session) (line.now ∷ [])) }
-    ensures next { IfOk result (λ next. state_of next ≡ after root.now (state_of session) line.now) }
+        (D.stands (one_disk result)) setting.now n (state_of session) (line.now ∷ []) added
+        × OnOk result (bytes_of added ≡ transcript setting.now n (state_of session) (line.now ∷ [])) }
+    ensures next { IfOk result (λ next. state_of next ≡ after setting.now (state_of session) line.now) }
+    ensures sound { IfOk result (λ next. IsSound setting.now.serial (state_of next)) }
     ensures agrees { D.tells → IfOk result (λ next. StandsFor (D.stands next.disk) (state_of next)) }
+    ensures lasts { D.tells → OneLasts D.stands session.disk result }
     ensures cause { OneCause D.faults session.disk (K.faults out.old) (K.faults out.new) result }
 {
-    let (session, reply) = match perform(alloc, session, root, line) {
+    let (session, reply) = match perform(alloc, session, setting, line) {
         Ok(performed) => performed,
         Err(stopped) => return Err(into_fault(stopped)),
     };
@@ -150,18 +162,21 @@ fn end_of(fault: LineFault) -> ServeEnd
 pub fn serve<S: Source, K: Sink, D: Disk>(
     alloc: Global,
     session: Session<D>,
-    root: &str,
+    setting: &Setting,
     source: &mut S,
     out: &mut K,
     max_input: u64,
 ) -> Served<D>
     requires some { 1 ≤ max_input }
     requires countable { max_input ≤ 2 ^ 62 }
-    requires first { session.done ≡ 0 }
+    requires sound { IsSound setting.now.serial (state_of session) }
+    requires root { IsPlainFileUrl setting.now.root }
+    requires bounded { setting.now.serial ≤ standard.serial }
     requires agrees { D.tells → StandsFor (D.stands session.disk) (state_of session) }
     ensures run { (taken : List ℕ) × (over : Bool) × (added : List Piece) ×
-        Runs D.tells D.stands D.moment_of session.disk result root.now (state_of session) max_input
+        Runs D.tells D.stands D.moment_of session.disk result setting.now (state_of session) max_input
         (S.left source.old) (S.left source.new) (K.pieces out.old) (K.pieces out.new) taken over added }
+    ensures lasts { D.tells → Lasts (D.stands session.disk) (D.stands result.disk) (result.end ≡ ServeEnd.Disk) }
     ensures causes { EndCause result.end (S.faults source.old) (S.faults source.new) (K.faults out.old)
         (K.faults out.new) (D.faults session.disk) (D.faults result.disk) }
 {
@@ -184,7 +199,7 @@ pub fn serve<S: Source, K: Sink, D: Disk>(
                 };
             }
         };
-        session = match serve_one(alloc, session, root, n, line.as_slice(), out) {
+        session = match serve_one(alloc, session, setting, n, line.as_slice(), out) {
             Ok(session) => session,
             Err(fault) => return fault.into_served(),
         };

@@ -1,28 +1,30 @@
-// The tree that a run works on, in memory and on the disk.
-ghost use Rattle.std.specs.Prelude.{◌≡◌, ◌+◌, ◌^◌, ◌<◌, ◌≤◌, None, IfOk, IfErr, OnOk};
-ghost use Rattle.wse_path.specs.Causes.{HasCause};
-ghost use Rattle.wse_path.specs.Tree.{HasRoom};
-ghost use Rattle.wse_disk.specs.Calls.{Wrote};
-ghost use Rattle.wse_disk.specs.Causes.{HasReadCause};
-ghost use Rattle.wse_disk.specs.Reading.Write.{Stores};
-ghost use Rattle.wsedit.specs.Create.{why_not};
-ghost use Rattle.wsedit.specs.Machine.{reply_to, after_create};
-ghost use Rattle.wsedit.specs.Session.{with_file, state_of, StandsFor, LeavesAt, disk_after, StepCause};
+// What a run works on, in memory and on the disk.
+ghost use Rattle.std.specs.Prelude.{◌≡◌, ◌+◌, ◌-◌, ◌^◌, ◌≤◌, Ok, Err, Some, map, length, IfOk, IfErr, OnOk};
+ghost use Rattle.wse_path.specs.Path.{Path};
+ghost use Rattle.wse_path.specs.Limits.{standard};
+ghost use Rattle.wse_path.specs.Versions.{version_of};
+ghost use Rattle.wse_resource.specs.Operated.{changed};
+ghost use Rattle.wsedit.specs.Machine.{raised, reply_to, after_op};
+ghost use Rattle.wsedit.specs.Session.{state_of, StandsFor, IsSound, LeadToTree, changed_state, LeavesAt, LeavesWithin, disk_after, StepCause, StepLasts};
 
-use crate::create::why_not_created;
 use crate::reply::Reply;
+use crate::write::{bump_all, put_all, remove_all, write_all};
 use std::alloc::Global;
-use wse_disk::{Disk, Failed, ReadErr};
-use wse_path::{Bytes, Duplicate, Memory, RelPath, Tree};
+use wse_disk::Disk;
+use wse_path::{
+    Bumps, Change, Changes, Duplicate, Memory, Numbered, RelPath, ResourceOp, Tree, Versions,
+};
+use wse_resource::{OpRefused, operate};
 
-/// The disk, the tree that it holds, and how many creates were done so far.
+/// The disk, the tree that it holds, the versions of its paths, and how many edits changed the tree so far.
 pub struct Session<D: Disk> {
     pub disk: D,
     pub tree: Tree,
+    pub versions: Versions,
     pub done: u64,
 }
 
-/// Why a create ended the run. The disk is handed back.
+/// Why an operation ended the run. The disk is handed back.
 pub enum Stopped<D: Disk> {
     /// The disk failed.
     Disk(D),
@@ -30,58 +32,57 @@ pub enum Stopped<D: Disk> {
     Memory(D),
 }
 
-/// Puts a file of the disk into the tree, unless the tree has no room there.
-fn load_file<D: Disk>(
-    alloc: Global,
-    disk: &mut D,
-    tree: &mut Tree,
-    path: RelPath,
-) -> Result<(), ReadErr>
-    ensures loaded { D.tells
-        → OnOk result (tree.new.files ≡ with_file (D.stands disk.old).reading.files tree.old.files path) }
-    ensures same { D.tells → D.stands disk.new ≡ D.stands disk.old }
-    ensures later { D.moment_of disk.old ≤ D.moment_of disk.new }
-    ensures cause { HasReadCause (D.faults disk.old) (D.faults disk.new) result }
-{
-    let mut bytes = Vec::new(alloc);
-    if !disk.load(alloc, &path, &mut bytes)? {
-        return Ok(());
-    }
-    if !tree.fits(&path) {
-        return Ok(());
-    }
-    match tree.put(path, Bytes::new(bytes)) {
-        Ok(()) => Ok(()),
-        Err(Memory) => Err(ReadErr::Memory),
-    }
-}
-
-/// The tree that the disk holds. Of paths that are no tree, which only a disk that tells nothing may name, the first stand.
-pub fn load_tree<D: Disk>(alloc: Global, disk: &mut D) -> Result<Tree, ReadErr>
-    ensures loaded { D.tells → IfOk result (λ tree. tree.files ≡ (D.stands disk.old).reading.files) }
-    ensures same { D.tells → D.stands disk.new ≡ D.stands disk.old }
-    ensures later { D.moment_of disk.old ≤ D.moment_of disk.new }
-    ensures cause { HasReadCause (D.faults disk.old) (D.faults disk.new) result }
+/// The paths that change.
+fn paths_of(alloc: Global, changes: &[Change]) -> Result<Vec<RelPath>, Memory>
+    ensures { IfOk result (λ paths. paths.items ≡ map (λ c. c.path) changes.now) }
 {
     let mut paths = Vec::new(alloc);
-    disk.names(alloc, &mut paths)?;
-    let mut tree = Tree::new(alloc);
-    for path in paths {
-        load_file(alloc, disk, &mut tree, path)?;
+    for change in changes {
+        paths.push(change.path.duplicate(alloc)?)?;
     }
-    Ok(tree)
+    Ok(paths)
 }
 
-/// Stores the bytes and makes them last.
-fn store_synced<D: Disk>(disk: &mut D, path: &RelPath, bytes: &[u8]) -> Result<(), Failed>
-    requires { D.tells → HasRoom (D.stands disk.old).reading.files path.now }
-    ensures told { D.tells
-        → Wrote (Stores path.now bytes.now) (D.stands disk.old) (D.stands disk.new) result }
-    ensures later { D.moment_of disk.old ≤ D.moment_of disk.new }
-    ensures cause { HasCause (D.faults disk.old) (D.faults disk.new) result }
+/// The paths that change, with their new versions.
+fn raised(alloc: Global, versions: &Versions, changes: &[Change]) -> Result<Bumps, Memory>
+    requires low { (q : Path) → version_of versions.now.entries q + 1 ≤ 2 ^ 31 - 1 }
+    ensures { IfOk result (λ bumps. bumps ≡ raised versions.now.entries changes.now) }
 {
-    disk.store(path, bytes)?;
-    disk.sync()
+    let mut bumps = Vec::new(alloc);
+    for change in changes {
+        let path = change.path.duplicate(alloc)?;
+        let number = versions.get(&change.path) + 1;
+        bumps.push(Numbered { path, number })?;
+    }
+    Ok(Bumps::new(bumps))
+}
+
+/// What changes need before they are made.
+#[derive(Drop)]
+struct Prepared {
+    paths: Vec<RelPath>,
+    changed: Bumps,
+}
+
+/// Takes all memory that the changes need.
+fn prepare(
+    alloc: Global,
+    tree: &mut Tree,
+    versions: &mut Versions,
+    changes: &[Change],
+) -> Result<Prepared, Memory>
+    requires low { (q : Path) → version_of versions.old.entries q + 1 ≤ 2 ^ 31 - 1 }
+    ensures paths { IfOk result (λ prepared. prepared.paths.items ≡ map (λ c. c.path) changes.now) }
+    ensures changed { IfOk result (λ prepared. prepared.changed ≡ raised versions.old.entries changes.now) }
+    ensures files { tree.new.files ≡ tree.old.files }
+    ensures entries { versions.new.entries ≡ versions.old.entries }
+    ensures room { OnOk result ((length changes.now ≤ tree.new.spare) × (length changes.now ≤ versions.new.spare)) }
+{
+    let paths = paths_of(alloc, changes)?;
+    let changed = raised(alloc, versions, changes)?;
+    tree.reserve(changes.len())?;
+    versions.reserve(changes.len())?;
+    Ok(Prepared { paths, changed })
 }
 
 impl<D: Disk> Session<D> {
@@ -92,66 +93,92 @@ impl<D: Disk> Session<D> {
         let Session {
             disk,
             tree: _,
+            versions: _,
             done: _,
         } = self;
         disk
     }
 
-    /// Creates the file on the disk, and then in memory, and says what the answer is. All memory is taken before the disk
-    /// is written.
-    pub fn create(self, alloc: Global, path: RelPath) -> Result<(Session<D>, Reply), Stopped<D>>
+    /// Does the operation on the disk, and then in memory, and says what the answer is. At most `serial` edits may change
+    /// the tree. All memory is taken before the disk is written.
+    pub fn operate(
+        self,
+        alloc: Global,
+        op: &ResourceOp,
+        serial: u64,
+    ) -> Result<(Session<D>, Reply), Stopped<D>>
         requires agrees { D.tells → StandsFor (D.stands self.disk) (state_of self) }
-        requires countable { self.done + 1 < 2 ^ 64 }
-        ensures step { IfOk result (λ x. (state_of x.0 ≡ after_create (state_of self) path)
-            × (x.1 ≡ reply_to (state_of self) path)) }
+        requires sound { IsSound serial (state_of self) }
+        requires bounded { serial ≤ standard.serial }
+        ensures step { IfOk result (λ x. (state_of x.0 ≡ after_op serial (state_of self) op.now)
+            × (x.1 ≡ reply_to serial (state_of self) op.now)) }
+        ensures sound { IfOk result (λ x. IsSound serial (state_of x.0)) }
         ensures agrees { D.tells → IfOk result (λ x. StandsFor (D.stands x.0.disk) (state_of x.0)) }
-        ensures left { D.tells → IfErr result (LeavesAt D.stands (state_of self) path) }
+        ensures left { D.tells → IfErr result (LeavesAt D.stands (state_of self) op.now) }
+        ensures lasts { D.tells → StepLasts D.stands self.disk result }
         ensures later { D.moment_of self.disk ≤ D.moment_of (disk_after result) }
         ensures cause { StepCause D.faults self.disk result }
     {
-        match why_not_created(alloc, &self.tree, &path) {
-            Ok(None) => self.store(alloc, path),
-            Ok(Some(why)) => Ok((self, Reply::Failed(why))),
-            Err(Memory) => Err(Stopped::Memory(self.into_disk())),
+        let changes = match operate(alloc, &self.tree, op) {
+            Ok(changes) => changes,
+            Err(OpRefused::Memory) => return Err(Stopped::Memory(self.into_disk())),
+            Err(why) => return Ok((self, Reply::Failed(why))),
+        };
+        if changes.is_empty() {
+            let reply = Reply::Applied {
+                changed: Bumps::new(Vec::new(alloc)),
+                element: None,
+            };
+            return Ok((self, reply));
         }
+        if self.done >= serial {
+            let would_be = self.done + 1;
+            return Ok((self, Reply::Limit { would_be }));
+        }
+        self.change(alloc, changes)
     }
 
-    // Stores a file that can be created.
-    fn store(self, alloc: Global, path: RelPath) -> Result<(Session<D>, Reply), Stopped<D>>
+    // Makes changes that lead to a tree.
+    fn change(self, alloc: Global, changes: Changes) -> Result<(Session<D>, Reply), Stopped<D>>
         requires agrees { D.tells → StandsFor (D.stands self.disk) (state_of self) }
-        requires countable { self.done + 1 < 2 ^ 64 }
-        requires free { why_not self.tree.files path ≡ None }
-        ensures step { IfOk result (λ x. (state_of x.0 ≡ after_create (state_of self) path)
-            × (x.1 ≡ reply_to (state_of self) path)) }
+        requires lead { LeadToTree self.tree.files changes }
+        requires sound { IsSound self.done (state_of self) }
+        requires bounded { self.done + 1 ≤ standard.serial }
+        ensures step { IfOk result (λ x. (state_of x.0 ≡ changed_state (state_of self) changes)
+            × (x.1 ≡ Reply.Applied (raised self.versions.entries changes) (Some (self.done + 1)))) }
+        ensures sound { IfOk result (λ x. IsSound (self.done + 1) (state_of x.0)) }
         ensures agrees { D.tells → IfOk result (λ x. StandsFor (D.stands x.0.disk) (state_of x.0)) }
-        ensures left { D.tells → IfErr result (LeavesAt D.stands (state_of self) path) }
+        ensures left { D.tells → IfErr result (LeavesWithin D.stands (state_of self) changes) }
+        ensures lasts { D.tells → StepLasts D.stands self.disk result }
         ensures later { D.moment_of self.disk ≤ D.moment_of (disk_after result) }
         ensures cause { StepCause D.faults self.disk result }
     {
         let Session {
             mut disk,
             mut tree,
+            mut versions,
             done,
         } = self;
-        let Ok(answered) = path.duplicate(alloc) else {
+        let Ok(prepared) = prepare(alloc, &mut tree, &mut versions, changes.as_slice()) else {
             return Err(Stopped::Memory(disk));
         };
-        if tree.reserve(1).is_err() {
-            return Err(Stopped::Memory(disk));
-        }
-        let Ok(()) = store_synced(&mut disk, &path, &[]) else {
+        let Ok(()) = write_all(&mut disk, changes.as_slice()) else {
             return Err(Stopped::Disk(disk));
         };
-        tree.put_reserved(path, Bytes::new(Vec::new(alloc)));
-        let element = done + 1;
+        let Prepared { paths, changed } = prepared;
+        remove_all(&mut tree, changes.as_slice());
+        put_all(&mut tree, changes.into_vec());
+        bump_all(&mut versions, paths);
+        let done = done + 1;
         let session = Session {
             disk,
             tree,
-            done: element,
+            versions,
+            done,
         };
-        let reply = Reply::Created {
-            path: answered,
-            element,
+        let reply = Reply::Applied {
+            changed,
+            element: Some(done),
         };
         Ok((session, reply))
     }

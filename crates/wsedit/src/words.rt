@@ -1,46 +1,59 @@
 // The words of the command line.
-ghost use Rattle.std.specs.Prelude.{◌≡◌, ◌++◌, ◌∷◌, [], nat_eq};
+ghost use Rattle.std.specs.Prelude.{◌≡◌, ◌++◌, ◌∷◌, [], nat_eq, IfOk, IfSome, option_map};
 ghost use Rattle.std.specs.List.{starts_with};
-ghost use Rattle.std.specs.Prelude.{true, false, codes, MatchOption};
-ghost use Rattle.wsedit.specs.Words.{without_slashes, is_place, lies_outside, are_understood, texts_of, are_run_words};
+ghost use Rattle.wse_uri.specs.FileUrl.{IsPlainFileUrl};
+ghost use Rattle.wsedit.specs.Words.{without_slashes, is_place, lies_outside, are_places, texts_of, root_of, run_root};
 
-use wse_json::plain_root;
+use std::alloc::Global;
+use url::Url;
+use wse_path::Memory;
+use wse_uri::{RootRefused, root_of};
 
 /// The words of `run TREE STORE ROOT` behind the first.
-#[derive(Clone, Copy)]
+#[derive(Drop)]
 pub struct RunWords<'a> {
     pub tree: &'a str,
     pub store: &'a str,
-    pub root: &'a str,
+    pub root: Url,
+}
+
+/// The URL that ROOT is, or None where it is no root.
+fn read_root(alloc: Global, text: &str) -> Result<Option<Url>, Memory>
+    ensures root { IfOk result (λ root. root ≡ root_of text.now) }
+    ensures plain { IfOk result (λ root. IfSome root IsPlainFileUrl) }
+{
+    match root_of(alloc, text) {
+        Ok(root) => Ok(Some(root)),
+        Err(RootRefused::NotARoot) => Ok(None),
+        Err(RootRefused::Memory) => Err(Memory),
+    }
 }
 
 /// What the words say, or None where they aren't understood.
-pub fn read_words(words: &[String]) -> Option<RunWords<'_>>
-    ensures { MatchOption result (are_run_words (texts_of words.now) ≡ false) (λ run.
-        (are_run_words (texts_of words.now) ≡ true)
-        × (texts_of words.now ≡ codes "run" ∷ run.tree.now ∷ run.store.now ∷ run.root.now ∷ [])) }
+pub fn read_words(alloc: Global, words: &[String]) -> Result<Option<RunWords<'_>>, Memory>
+    ensures root { IfOk result (λ run. option_map (λ r. r.root) run ≡ run_root (texts_of words.now)) }
+    ensures plain { IfOk result (λ run. IfSome run (λ r. IsPlainFileUrl r.root)) }
 {
     let [command, tree, store, root] = words else {
-        return None;
+        return Ok(None);
     };
-    let run = RunWords {
-        tree: tree.as_str(),
-        store: store.as_str(),
-        root: root.as_str(),
-    };
-    if command.as_str() == "run" && is_understood(run) {
-        return Some(run);
+    let tree = tree.as_str();
+    let store = store.as_str();
+    if command.as_str() != "run" || !are_places(tree, store) {
+        return Ok(None);
     }
-    None
+    match read_root(alloc, root.as_str()) {
+        Ok(Some(root)) => Ok(Some(RunWords { tree, store, root })),
+        Ok(None) => Ok(None),
+        Err(Memory) => Err(Memory),
+    }
 }
 
-fn is_understood(run: RunWords<'_>) -> bool
-    ensures { result ≡ are_understood run.entry.tree.now run.entry.store.now run.entry.root.now }
+/// Whether TREE and STORE may name the two folders.
+fn are_places(tree: &str, store: &str) -> bool
+    ensures { result ≡ are_places tree.now store.now }
 {
-    is_folder_word(run.tree)
-        && is_folder_word(run.store)
-        && is_outside(run.tree, run.store)
-        && plain_root(run.root)
+    is_folder_word(tree) && is_folder_word(store) && is_outside(tree, store)
 }
 
 /// The word without the slashes at its end.

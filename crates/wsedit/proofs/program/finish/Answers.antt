@@ -1,16 +1,22 @@
-use Rattle.std.proofs.Common.{ap}
-use Rattle.wsedit.specs.Words.{root_in}
-use Rattle.wsedit.proofs.Starting.{runs_from_root}
+use Rattle.std.proofs.Common.{[], inr, false, refl, arith}
+use Rattle.wsedit.specs.declared.serve.ServeEnd.TheVariants as ends
+use Rattle.wsedit.specs.declared.serve.Served.{Served}
+use Rattle.wsedit.specs.declared.setting.Setting.{Setting}
+use Rattle.wsedit.specs.declared.status.Status.TheVariants.{Memory}
+use Rattle.wsedit.proofs.Starting.{first_state, unstarted, runs_from}
 use Rattle.wsedit.proofs.program.finish.Goals as goal
 
-pub returns-in-Some-clause-run : goal.returns-in-Some-clause-run
-returns-in-Some-clause-run g c = λ ne.
-    let run = c.start-disk.ensures.run in (
-      run.0,
-      run.1,
-      run.2,
-      run.3,
-      run.4,
-      runs_from_root g.D.Disk.tells g.D.Disk.stands g.D.Disk.moment_of c.args.disk c.start-disk.result c.of-status.result c.in-Some.words.root.now _ run.0 c.args.max_input _ _ _ _ run.1 run.2 run.3
-          (ap root_in c.in-Some.ensures.1) c.of-status.ensures run.5,
+-- there was no memory for the root
+pub returns-in-Err-clause-run : goal.returns-in-Err-clause-run
+returns-in-Err-clause-run g c = λ root is.
+    let s = first_state (g.D.Disk.stands c.args.disk).reading.files in
+    let setting : Setting = record { root = root; serial = c.args.bounds.max_serial } in
+    let served : Served g.row.D.Denot = record { disk = c.args.disk; end = ends.Memory } in (
+      s,
+      [],
+      false,
+      [],
+      record { tree = λ told. refl; versions = refl; none = refl },
+      runs_from g.D.Disk.tells g.D.Disk.stands g.D.Disk.moment_of c.args.disk served Memory setting s c.args.bounds.max_input _ _ _ _ [] false [] refl
+          (unstarted g.D.Disk.tells g.D.Disk.stands g.D.Disk.moment_of c.args.disk served setting s c.args.bounds.max_input _ _ (inr refl) (omega arith) (λ told. refl)),
     )

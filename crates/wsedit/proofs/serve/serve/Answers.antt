@@ -19,8 +19,9 @@ loop-line-init g c =
       source = omega arith;
       fault = λ e. let open_yet = made.open in cc;
       sink = omega arith;
+      lasts = λ told none. none;
       disk = omega arith;
-      so_far = ([], [], [], reads_none _ c.new-lines.result made.taken made.held made.open, answers_none g.D.Disk.tells g.D.Disk.stands g.D.Disk.moment_of _ c.args.session c.args.root.now c.requires.first c.requires.agrees);
+      so_far = ([], [], [], reads_none _ c.new-lines.result made.taken made.held made.open, answers_none g.D.Disk.tells g.D.Disk.stands g.D.Disk.moment_of _ c.args.session c.args.setting.now c.requires.sound c.requires.agrees);
     }
 
 -- the reader failed
@@ -32,7 +33,7 @@ returns-in-Err-clause-run g c =
       so.0 ++ h.0,
       is_over c.loop-line.lines.ahead,
       so.2,
-      fault_ends g.D.Disk.tells g.D.Disk.stands g.D.Disk.moment_of _ _ _ _ _ c.args.session.disk c.loop-line.session _ c.args.root.now (state_of c.args.session) c.loop-line.n c.args.max_input c.loop-line.lines c.next.new.self so.0 h.0 so.1 so.2 so.3 so.4 inv.max_input
+      fault_ends g.D.Disk.tells g.D.Disk.stands g.D.Disk.moment_of _ _ _ _ _ c.args.session.disk c.loop-line.session _ c.args.setting.now (state_of c.args.session) c.loop-line.n c.args.max_input c.loop-line.lines c.next.new.self so.0 h.0 so.1 so.2 so.3 so.4 inv.max_input
           c.in-Err.fault h.1 c.into_disk-in-Err.ensures c.end_of.ensures,
     )
 
@@ -45,7 +46,7 @@ returns-in-Ok-End-clause-run g c =
       so.0 ++ h.0,
       true,
       so.2,
-      done_ends g.D.Disk.tells g.D.Disk.stands g.D.Disk.moment_of _ _ _ _ _ c.args.session.disk c.loop-line.session _ c.args.root.now (state_of c.args.session) c.loop-line.n c.args.max_input c.loop-line.lines c.next.new.self so.0 h.0 so.1 so.2 so.3 so.4 inv.max_input
+      done_ends g.D.Disk.tells g.D.Disk.stands g.D.Disk.moment_of _ _ _ _ _ c.args.session.disk c.loop-line.session _ c.args.setting.now (state_of c.args.session) c.loop-line.n c.args.max_input c.loop-line.lines c.next.new.self so.0 h.0 so.1 so.2 so.3 so.4 inv.max_input
           h.1 c.into_disk.ensures refl,
     )
 
@@ -61,7 +62,7 @@ returns-in-Err-serve_one-clause-run g c =
       so.0 ++ hands.0,
       is_over c.next.new.self.ahead,
       so.2 ++ one.0,
-      one_ends g.D.Disk.tells g.D.Disk.stands g.D.Disk.moment_of _ _ _ _ _ c.args.session.disk c.loop-line.session _ c.args.root.now (state_of c.args.session) c.loop-line.n c.args.max_input c.loop-line.lines c.next.new.self so.0 hands.0 so.1 so.2 so.3 so.4 inv.max_input
+      one_ends g.D.Disk.tells g.D.Disk.stands g.D.Disk.moment_of _ _ _ _ _ c.args.session.disk c.loop-line.session _ c.args.setting.now (state_of c.args.session) c.loop-line.n c.args.max_input c.loop-line.lines c.next.new.self so.0 hands.0 so.1 so.2 so.3 so.4 inv.max_input
           _ x c.in-Err-serve_one.fault (IsDiskFault {D = g.row.D.Denot} (Err c.in-Err-serve_one.fault)) one.0 h one.1 one.2 (λ failed. c.into_served.ensures.end ∙ disk_ended c.in-Err-serve_one.fault failed) c.into_served.ensures.disk c.into_served.ensures.end,
     )
 
@@ -88,12 +89,13 @@ loop-line-preserved g c =
       source = omega (arith, inv.source, c.in-Ok-Text.ensures.later);
       fault = λ e. rose_either _ _ _ _ inv.source c.in-Ok-Text.ensures.later inv.fault (c.in-Ok-Text.ensures.cause e);
       sink = omega (arith, inv.sink, c.in-Ok.ensures.cause.0);
+      lasts = λ told none. c.in-Ok.ensures.lasts told (inv.lasts told none);
       disk = omega (arith, inv.disk, c.in-Ok.ensures.cause.1);
       so_far = (
         so.0 ++ hands.0,
         so.1 ++ x ∷ [],
         so.2 ++ one.0,
         reads_more _ _ _ c.loop-line.lines c.next.new.self so.0 hands.0 so.1 x so.3 h,
-        answers_more g.D.Disk.tells g.D.Disk.stands g.D.Disk.moment_of _ _ _ _ c.loop-line.session c.in-Ok.session c.args.root.now _ c.loop-line.n so.1 x so.2 one.0 so.4 one.1 one.2 one.3 c.in-Ok.ensures.next c.in-Ok.ensures.agrees,
+        answers_more g.D.Disk.tells g.D.Disk.stands g.D.Disk.moment_of _ _ _ _ c.loop-line.session c.in-Ok.session c.args.setting.now _ c.loop-line.n so.1 x so.2 one.0 so.4 one.1 one.2 one.3 c.in-Ok.ensures.next c.in-Ok.ensures.sound c.in-Ok.ensures.agrees,
       );
     }

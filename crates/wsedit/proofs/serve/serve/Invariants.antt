@@ -1,4 +1,4 @@
-use Rattle.std.proofs.Common.{◌≡◌, ◌≤◌, ◌+◌, ◌-◌, List, ℕ, length}
+use Rattle.std.proofs.Common.{◌≡◌, ◌≤◌, ◌+◌, false, ◌-◌, List, ℕ, length}
 use Rattle.wse_path.specs.Causes.{Rose}
 use Rattle.wse_io.specs.Stream.{Piece}
 use Rattle.wse_io.specs.declared.lines.Ahead.TheVariants.{Failed}
@@ -15,10 +15,11 @@ invariant-loop-line g l = record {
   source : g.S.Source.faults l.initial.source ≤ g.S.Source.faults l.source;
   fault : l.lines.ahead ≡ Failed Read → Rose (g.S.Source.faults l.initial.source) (g.S.Source.faults l.source);
   sink : g.K.Sink.faults l.initial.out ≤ g.K.Sink.faults l.out;
+  lasts : g.D.Disk.tells → (g.D.Disk.stands l.initial.session.disk).pending ≡ false → (g.D.Disk.stands l.session.disk).pending ≡ false;
   disk : g.D.Disk.faults l.initial.session.disk ≤ g.D.Disk.faults l.session.disk;
   so_far : (taken : List ℕ) × (done : List (List ℕ)) × (added : List Piece)
       × Reads (g.S.Source.left l.initial.source) (g.S.Source.left l.source) l.lines taken done
-      × Answers g.D.Disk.tells g.D.Disk.stands g.D.Disk.moment_of (g.K.Sink.pieces l.initial.out) (g.K.Sink.pieces l.out) (g.D.Disk.moment_of l.initial.session.disk) l.session l.root (state_of l.initial.session) l.n done added;
+      × Answers g.D.Disk.tells g.D.Disk.stands g.D.Disk.moment_of (g.K.Sink.pieces l.initial.out) (g.K.Sink.pieces l.out) (g.D.Disk.moment_of l.initial.session.disk) l.session l.setting (state_of l.initial.session) l.n done added;
 }
 
 abbrev pub decreases-loop-line : goal.decreases-loop-line

@@ -1,35 +1,11 @@
--- Where a create finds room, and what it changes.
-use Rattle.std.proofs.Common.{◌≡◌, ℕ, suc, ◌+◌, ◌&&◌, Bool, true, false, cond, List, [], ◌∷◌, ◌++◌, map, take, length, is_some, Option, Some, None, Result, Ok, Err, inr, refl, sym, ap, subst, ◌∙◌, length-append}
+-- How the tree of a disk is loaded.
+use Rattle.std.proofs.Common.{◌≡◌, ℕ, suc, ◌+◌, ◌&&◌, cond, List, [], ◌∷◌, ◌++◌, map, take, length, is_some, refl, sym, ap, subst, ◌∙◌, length-append}
 use Rattle.std.proofs.Math.Seq.{take-append-add, take-append_seam}
-use Rattle.wse_disk.specs.Calls.{Standing, bytes_or_none, wrote, Wrote, Synced}
+use Rattle.wse_disk.specs.Calls.{bytes_or_none}
 use Rattle.wsedit.specs.Session.{with_file}
 use Rattle.wse_path.specs.Path.{Path}
-use Rattle.wse_path.specs.Tree.{Entries, is_folder, file_above, is_present, fits, put_file, HasRoom, IsTree}
-use Rattle.wse_path.proofs.TreeLemmas.{fits_where, fits_front, tree_put, put_front, content_put_other, content_of}
-use Rattle.wse_disk.specs.Reading.{Write, DiffersAt}
-use Rattle.wse_disk.specs.Reading.Write.{Stores}
-use Rattle.wsedit.specs.Create.{why_not, why_not_at}
-use Rattle.wsedit.specs.declared.create.NotCreated.TheVariants.{IsFolder}
-
-room_by : (files : Entries) (p : Path) (folder : Bool) (above : Option Path) (here : Bool) → is_folder files p ≡ folder → file_above files p ≡ above → is_present files p ≡ here
-    → cond folder (Some IsFolder) (why_not_at above here) ≡ None → HasRoom files p
-room_by files p true above here f a h e = cc
-room_by files p false (Some file) here f a h e = cc
-room_by files p false None true f a h e = cc
-room_by files p false None false f a h e = inr (fits_where files p f a h)
-
--- a path that can be created finds room
-pub room_for : (files : Entries) (p : Path) → why_not files p ≡ None → HasRoom files p
-room_for files p e = room_by files p (is_folder files p) (file_above files p) (is_present files p) refl refl refl e
-
--- a file that is put where there is room changes that path alone
-pub differs_put : (files : Entries) (p : Path) (bytes : List ℕ) → IsTree files → HasRoom files p → DiffersAt (Stores p bytes) (record { files = files }) (record { files = put_file files p bytes })
-differs_put files p bytes tree room = record { tree = tree_put files p bytes tree room; others = λ q ne. content_put_other files p bytes q ne }
-
--- a write that was done, and then a sync
-pub wrote_synced : {T E : Type 0} (w : Write) (old mid new : Standing) (r : Result T E) → mid ≡ wrote w old → Synced mid new r → DiffersAt w old.reading (wrote w old).reading → Wrote w old new r
-wrote_synced w old mid new (Ok x) done same differs = same ∙ done
-wrote_synced w old mid new (Err e) done same differs = subst (λ (d : Standing). DiffersAt w old.reading d.reading) (sym (same ∙ done)) differs
+use Rattle.wse_path.specs.Tree.{Entries, fits, put_file, IsTree}
+use Rattle.wse_path.proofs.TreeLemmas.{fits_front, put_front, content_of}
 
 -- the entry whose path follows some others
 pub record Parted (all : Entries) (before : List Path) (p : Path) : Type 0 where

@@ -2,8 +2,8 @@ use Rattle.std.proofs.Common.{◌++◌, ◌∷◌, [], sym, ap, ◌∙◌, appen
 use Rattle.wse_path.specs.Tree.{Entries}
 use Rattle.wse_disk.specs.Calls.{Standing}
 use Rattle.wsedit.specs.Session.{with_file}
-use Rattle.wsedit.proofs.SessionLemmas.{loaded_more}
-use Rattle.wsedit.proofs.session.load_tree.Goals as goal
+use Rattle.wsedit.proofs.LoadLemmas.{loaded_more}
+use Rattle.wsedit.proofs.load.load_tree.Goals as goal
 
 pub loop-path-preserved : goal.loop-path-preserved
 loop-path-preserved g c =
