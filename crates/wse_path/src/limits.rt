@@ -11,11 +11,12 @@ pub struct Limits {
     pub file_bytes: u64,
     /// Bytes of all files.
     pub tree_bytes: u64,
-    /// 32 plus the bytes of its text for each path that has a version.
+    /// Over all paths with a version: 32, and the bytes of the path's text.
     pub known: u64,
-    /// What the history holds.
+    /// Over all that the history holds of single files: 256, and the bytes of the label, of the path's text, and of the old
+    /// and the new content.
     pub weight: u64,
-    /// Commands that changed something.
+    /// Commands that the store recorded since it was made.
     pub serial: u64,
 }
 

@@ -1,4 +1,4 @@
-// What no clause says of trees, versions, copies and limits.
+// That calls succeed where there is memory, which no clause can say, and what they answer then.
 use super::*;
 use std::alloc::Global;
 use std::test::Fail;
@@ -89,6 +89,8 @@ fn copies_are_equal(rt: HostRuntime) -> Result<(), Fail> {
     let alloc = rt.alloc();
     let file = path(alloc, "d/x")?;
     let bytes = Bytes::new(b"text".to_vec(alloc)?);
+    let text = file.text(alloc)?.duplicate(alloc)?;
+    assert_eq!(rt; text.as_str(), "d/x");
     let mut tree = Tree::new(alloc);
     assert!(rt; tree.fits(&file));
     tree.put(file.duplicate(alloc)?, bytes.duplicate(alloc)?)?;

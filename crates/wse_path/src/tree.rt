@@ -32,7 +32,7 @@ impl Model for Tree {
 }
 
 impl Tree {
-    /// A tree without files. It takes no memory until a file is put.
+    /// A tree without files. It takes no memory until a file is put or room is made.
     pub fn new(alloc: Global) -> Tree
         ensures { result.files ≡ [] }
     {
@@ -147,11 +147,12 @@ impl Tree {
         self.get(path).is_none() && self.file_above(path).is_none() && !self.is_folder(path)
     }
 
-    /// Puts the bytes at the path, in place of what is there. After Memory the tree is as it was.
+    /// Puts the bytes at the path, in place of what is there. After Memory the tree is as it was, with no less room.
     pub fn put(&mut self, path: RelPath, bytes: Bytes) -> Result<(), Memory>
         requires { HasRoom self.old.files path }
         ensures ok { OnOk result (self.new.files ≡ put_file self.old.files path bytes) }
         ensures memory { OnErr result (self.new.files ≡ self.old.files) }
+        ensures kept { OnErr result (self.old.spare ≤ self.new.spare) }
     {
         match self.search(&path) {
             Ok(at) => {

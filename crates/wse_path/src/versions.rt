@@ -34,7 +34,7 @@ impl Model for Versions {
 }
 
 impl Versions {
-    /// No versions. It takes no memory until one is raised.
+    /// No versions. It takes no memory until room is made.
     pub fn new(alloc: Global) -> Versions
         ensures { result.entries ≡ [] }
     {
@@ -102,6 +102,7 @@ impl Versions {
             Err(at) => insert_within(&mut self.entries, at, path, by),
         }
     }
+
     /// Versions with the same entries. How much room they have is their own matter.
     pub fn duplicate(&self, alloc: Global) -> Result<Versions, Memory>
         ensures { IfOk result (λ copy. copy.entries ≡ self.now.entries) }
