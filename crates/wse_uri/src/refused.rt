@@ -11,9 +11,9 @@ pub enum UriRefused {
     NotFile,
     /// The host isn't empty.
     HasHost,
-    /// There is a query, if an empty one.
+    /// There is a query, even an empty one.
     HasQuery,
-    /// There is a fragment, if an empty one.
+    /// There is a fragment, even an empty one.
     HasFragment,
     /// The URI's segments don't begin with the root's.
     OutsideRoot,
