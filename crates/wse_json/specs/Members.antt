@@ -47,7 +47,7 @@ the_item no_items = None
 the_item (item d no_items) = Some d
 the_item (item d (item e more)) = None
 
--- A member that may be missing, null counting as missing.
+-- A value that isn't null.
 abbrev pub unless_null : Data → Option Data
 unless_null null = None
 unless_null (boolean b) = Some (boolean b)
@@ -56,13 +56,15 @@ unless_null (string s) = Some (string s)
 unless_null (array ds) = Some (array ds)
 unless_null (object ms) = Some (object ms)
 
+-- A member that may be missing, null counting as missing.
 abbrev pub optional : List ℕ → Data → Option Data
 optional name d = option_and_then unless_null (get name d)
 
+-- The true or false that a member is, false where there is none. None where it is something else.
 abbrev pub flag_of : Option Data → Option Bool
 flag_of None = Some false
 flag_of (Some d) = as_bool d
 
--- A true or false that may be missing, and then is false. None where it is something else.
+-- The true or false at a name.
 abbrev pub flag_at : List ℕ → Data → Option Bool
 flag_at name d = flag_of (optional name d)

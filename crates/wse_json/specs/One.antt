@@ -36,14 +36,15 @@ pub data Form : Type 0 where
   Rename : (old new : List ℕ) (overwrite ignore : Bool) → Form
   Delete : (uri : List ℕ) (recursive ignore : Bool) → Form
 
-abbrev pub options_or_none : Option Data → Data
-options_or_none (Some d) = d
-options_or_none None = object no_members
+abbrev pub options_or_empty : Option Data → Data
+options_or_empty (Some d) = d
+options_or_empty None = object no_members
 
--- The options of a change, which has no members but of these names, and whose options have none but these two.
+-- The options of a change that has no members but `kind`, `options` and those of these names. The options, an empty object
+-- where they are missing, have none but the two.
 abbrev pub options_of : (names : List (List ℕ)) (first second : List ℕ) → Data → Option Data
 options_of names first second change =
-    let options = options_or_none (optional (codes "options") change) in
+    let options = options_or_empty (optional (codes "options") change) in
     if has_only (codes "kind" ∷ codes "options" ∷ names) change && has_only (first ∷ second ∷ []) options
     then Some options
     else None

@@ -1,9 +1,9 @@
--- What the code's own values stand for.
+-- An operation as the code has it, and the flags that the code reads.
 use Rattle.std.specs.Prelude.{ℕ, Bool, List, [], ◌∷◌, codes, Option, None, if◌then◌else◌}
 use Rattle.serde_json.specs.Data.{Data}
 use Rattle.wse_json.specs.Members.{has_only, optional}
 use Rattle.wse_json.specs.One as one
-use Rattle.wse_json.specs.One.{options_or_none, flags_of}
+use Rattle.wse_json.specs.One.{options_or_empty, flags_of}
 use Rattle.wse_json.specs.declared.form.Form.{Form}
 use Rattle.wse_json.specs.declared.form.Form.TheVariants.{Create, Rename, Delete}
 
@@ -16,5 +16,5 @@ seen (Delete uri recursive ignore) = one.Delete uri.now recursive ignore
 -- Both flags in the options of a change, which has no other options.
 abbrev pub flags_in : (first second : List ℕ) → Data → Option (Bool × Bool)
 flags_in first second change =
-    let options = options_or_none (optional (codes "options") change) in
+    let options = options_or_empty (optional (codes "options") change) in
     if has_only (first ∷ second ∷ []) options then flags_of first second options else None

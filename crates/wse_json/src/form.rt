@@ -1,5 +1,5 @@
 // Resource operations as JSON has them, with URIs in the place of paths.
-ghost use Rattle.std.specs.Prelude.{◌≡◌, option_map, option_and_then};
+ghost use Rattle.std.specs.Prelude.{◌≡◌, option_map};
 ghost use Rattle.serde_json.specs.View.{view};
 ghost use Rattle.wse_json.specs.One.{edit_of, change_of, create_form, rename_form, delete_form, form_of, form_in};
 ghost use Rattle.wse_json.specs.Seen.{seen, flags_in};

@@ -79,6 +79,11 @@ fn the_three_kinds_are_read(rt: HostRuntime) -> Result<(), Fail> {
             r#"{"kind":"delete","uri":"file:///w/d","options":{"recursive":false,"ignoreIfNotExists":true}}"#,
             "delete d false true",
         ),
+        // The last of two members of one name counts.
+        (
+            r#"{"kind":"create","uri":"file:///w/a","kind":"delete","uri":"file:///w/b"}"#,
+            "delete b false false",
+        ),
     ] {
         let line = line_with(rt.alloc(), change)?;
         let op = read_one(rt.alloc(), &root, line.as_bytes())?;
@@ -136,6 +141,9 @@ fn no_other_change_is_built(rt: HostRuntime) -> Result<(), Fail> {
         r#"{"kind":"move","oldUri":"file:///w/a","newUri":"file:///w/b"}"#,
         r#"{"kind":"create"}"#,
         r#"{"kind":"create","uri":null}"#,
+        r#"{"kind":null,"uri":"file:///w/a"}"#,
+        r#"{"kind":"create","uri":"file:///w/a","annotationId":null}"#,
+        r#"{"kind":"create","uri":"http://h/a","options":{"overwrite":0}}"#,
         r#"{"kind":"create","uri":"file:///w/a","annotationId":"n"}"#,
         r#"{"kind":"create","uri":"http://h/a","newUri":"file:///w/b"}"#,
         r#"{"kind":"create","uri":"file:///w/a","options":[]}"#,
@@ -160,6 +168,7 @@ fn no_other_command_is_built(rt: HostRuntime) -> Result<(), Fail> {
         r#"{"do":"undo","edit":{"documentChanges":[{"kind":"create","uri":"file:///w/a"}]}}"#,
         r#"{"do":"edit","edit":{"documentChanges":[{"kind":"create","uri":"file:///w/a"}]},"n":1}"#,
         r#"{"do":"edit","edit":{"documentChanges":[{"kind":"create","uri":"file:///w/a"}],"changes":{}}}"#,
+        r#"{"do":"edit","edit":{}}"#,
         r#"{"do":"edit","edit":{"documentChanges":{"kind":"create","uri":"file:///w/a"}}}"#,
     ] {
         let read = read_one(rt.alloc(), &root, line.as_bytes());
