@@ -7,17 +7,18 @@ use Rattle.std.specs.List.{AllByRecursion}
 use Rattle.std.specs.FinMap.{find, is_sorted}
 use Rattle.std.specs.FinMap.Entries.{find-put}
 use Rattle.std.specs.Cmp.Lexicographic.{lists_total, nat_list_cmp_total}
-use Rattle.std.proofs.lemmas.Bool.{cases_Bool, true≢false, false_from_ne_true}
+use Rattle.std.proofs.lemmas.Bool.{true≢false, false_from_ne_true}
 use Rattle.wse_path.specs.Path.{Path, is_under}
 use Rattle.wse_path.specs.Order.{path_cmp}
-use Rattle.wse_path.specs.Tree.{Entries, content, is_present, is_folder, entry_above, file_above, put_file, HasRoom, IsTree}
+use Rattle.wse_path.specs.Tree.{Entries, content, is_present, is_folder, entry_above, file_above, put_file, IsTree}
 use Rattle.wse_path.specs.declared.operation.ResourceOp.{ResourceOp}
 use Rattle.wse_path.specs.declared.operation.ResourceOp.TheVariants.{Create, Rename, Delete}
-use Rattle.wse_path.proofs.TreeLemmas.{same_path, tree_put, fits_where, rises_put}
+use Rattle.wse_path.proofs.TreeLemmas.{same_path, tree_put, rises_put}
 use Rattle.wse_resource.specs.Table.{is_within, moved, files_within}
 use Rattle.wse_resource.specs.After.{without, moved_files, after, content_after}
 use Rattle.wse_resource.proofs.WithinLemmas.{moved_within, moved_back, moved_under, above_both, under_trans}
 use Rattle.wse_resource.proofs.EntriesLemmas.{find_where, sorted_where, sorted_put_each, put_all_is, find_put_each, each_found, each_passes, has_moved_keys}
+use Rattle.wse_resource.proofs.RoomLemmas.{room_where}
 
 -- ---- what it has at each path
 
@@ -137,10 +138,6 @@ tree_renamed files from to overwrite ignore tree above = record {
   rises = sorted_after files (Rename from to overwrite ignore) tree.rises;
   apart = λ p q hp hq. false_from_ne_true (is_under p q) (apart_came files from to p q tree above (came files from to overwrite ignore p tree.rises hp) (came files from to overwrite ignore q tree.rises hq));
 }
-
-pub room_where : (files : Entries) (p : Path) → is_folder files p ≡ false → file_above files p ≡ None → HasRoom files p
-room_where files p folder above =
-    elim (cases_Bool (is_present files p)) [ inl here ↦ inl here | inr absent ↦ inr (fits_where files p folder above absent) ]
 
 pub tree_created : (files : Entries) (p : Path) → IsTree files → is_folder files p ≡ false → file_above files p ≡ None → IsTree (put_file files p [])
 tree_created files p tree folder above = tree_put files p [] tree (room_where files p folder above)

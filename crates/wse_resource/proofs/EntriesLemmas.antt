@@ -11,7 +11,7 @@ use Rattle.std.specs.BTreeMap.{insert_entry}
 use Rattle.std.specs.FinMap.Entries.{by_order}
 use Rattle.wse_path.specs.Path.{Path}
 use Rattle.wse_path.specs.Order.{path_cmp}
-use Rattle.wse_path.specs.Tree.{Entries, put_all}
+use Rattle.wse_path.specs.Tree.{Entries, is_present, put_all}
 use Rattle.wse_path.proofs.EntryLemmas.{and_parts, less_so, so, to_so}
 use Rattle.wse_path.proofs.TreeLemmas.{same_path, tied_itself}
 use Rattle.wse_resource.specs.Plan.{put_each}
@@ -126,3 +126,6 @@ has_put_each (x ∷ xs) es q =
     has_put_each xs (put path_cmp x.0 x.1 es) q
     ∙ ap (λ o. is_some o || is_some (find path_cmp q xs)) (find-put path_cmp (lists_total nat_list_cmp_total) q x.0 x.1 es)
     ∙ has_put (eq_by_cmp path_cmp q x.0) (find path_cmp q es) (find path_cmp q xs) x.1
+
+pub has_put_all : (xs es : Entries) (q : Path) → is_present (put_all xs es) q ≡ (is_present es q || is_present xs q)
+has_put_all xs es q = ap (λ l. is_present l q) (put_all_is xs es) ∙ has_put_each xs es q

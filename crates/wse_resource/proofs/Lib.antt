@@ -1,5 +1,6 @@
 pub mod WithinLemmas
 pub mod EntriesLemmas
+pub mod RoomLemmas
 pub mod AfterLemmas
 pub mod OutcomeLemmas
 pub mod PlanLemmas

@@ -1,11 +1,10 @@
 -- Trees built file by file.
-use Rattle.std.proofs.Common.{◌≡◌, ℕ, ◌+◌, ◌<◌, ◌≤◌, Bool, true, false, cond, not, ◌&&◌, ◌||◌, List, [], ◌∷◌, ◌++◌, map, take, drop, length, get_or, slice_get, find, Option, Some, None, IsSome, option_copied, Bor, inl, inr, refl, sym, ap, subst, ◌∙◌, add-one, arith, if◌then◌else◌}
+use Rattle.std.proofs.Common.{◌≡◌, ℕ, ◌+◌, ◌<◌, ◌≤◌, Bool, true, false, cond, not, ◌&&◌, ◌||◌, List, [], ◌∷◌, ◌++◌, map, take, drop, length, get_or, slice_get, find, Option, Some, None, IsSome, option_copied, Bor, inr, refl, sym, ap, subst, ◌∙◌, add-one, arith, if◌then◌else◌}
 use Rattle.std.specs.Prelude.{is_some}
 use Rattle.std.specs.Option.{option_map}
 use Rattle.std.specs.FinMap.{is_sorted}
 use Rattle.std.specs.FinMap.Entries.{where_key}
 use Rattle.std.proofs.Math.Seq.{drop-cons}
-use Rattle.std.proofs.lemmas.Bool.{cases_Bool, or_from, true≢false, false_from_ne_true}
 use Rattle.std.proofs.lemmas.List.{take_more, map-append, append-nil, take-append-drop, take_all, length-map}
 use Rattle.std.proofs.lemmas.List.Elements.{filter-append}
 use Rattle.std.proofs.lemmas.Option.{get_or_from_slice_get, slice_get_within, slice_get-get_or, slice_get-map}
@@ -13,12 +12,13 @@ use Rattle.wse_path.specs.Path.{Path}
 use Rattle.wse_path.specs.Order.{path_cmp}
 use Rattle.wse_path.specs.Tree.{Entries, content, is_present, put_file, put_all, file_above, HasRoom, IsTree}
 use Rattle.wse_path.specs.declared.operation.ResourceOp.TheVariants.{Rename}
-use Rattle.wse_path.proofs.TreeLemmas.{same_path, none_any_where, fits_front, put_front, content_of, present_front}
+use Rattle.wse_path.proofs.TreeLemmas.{fits_front, put_front, content_of, present_front}
 use Rattle.wse_resource.specs.Table.{is_within, moved, files_within, past_limit}
 use Rattle.wse_resource.specs.After.{without, moved_files, after}
 use Rattle.wse_resource.specs.Course.{is_past_limit}
 use Rattle.wse_resource.proofs.WithinLemmas.{moved_within, moved_back}
-use Rattle.wse_resource.proofs.EntriesLemmas.{put_all_is, has_put_each}
+use Rattle.wse_resource.proofs.EntriesLemmas.{has_put_all}
+use Rattle.wse_resource.proofs.RoomLemmas.{room_in}
 use Rattle.wse_resource.proofs.MovesLemmas.{none_next, first_is}
 use Rattle.wse_resource.proofs.AfterLemmas.{content_is, tree_without, tree_renamed}
 
@@ -91,20 +91,6 @@ without_next files p i e tree at =
     ] refl
     ∙ sym (where_next (λ q. not (is_within q p)) files i e at)
 
--- ---- room for what a tree has
-
--- a path of a tree has room among paths of that tree
-pub room_in : (some all : Entries) (p : Path) → IsTree all → ((q : Path) → is_present some q ≡ true → is_present all q ≡ true) → is_present all p ≡ true → HasRoom some p
-room_in some all p tree kept here =
-    elim (cases_Bool (is_present some p)) [
-      | inl there ↦ inl there
-      | inr absent ↦ inr (ap not (none_any_where some p (λ q h.
-          or_from _ _ (or_from _ _
-          (false_from_ne_true _ (λ t. true≢false (sym h ∙ ap (is_present some) (sym (same_path p q t)) ∙ absent)))
-          (tree.apart p q here (kept q h)))
-          (tree.apart q p (kept q h) here))))
-    ]
-
 -- ---- the moved files, one after another
 
 put_all-push : (xs : Entries) (x : Path × List ℕ) (es : Entries) → put_all (xs ++ x ∷ []) es ≡ put_file (put_all xs es) x.0 x.1
@@ -133,9 +119,6 @@ moved_split files from to i =
 or_kept : (a b c : Bool) → (b ≡ true → c ≡ true) → (a || b) ≡ true → (a || c) ≡ true
 or_kept true b c f h = refl
 or_kept false b c f h = f h
-
-pub has_put_all : (xs es : Entries) (q : Path) → is_present (put_all xs es) q ≡ (is_present es q || is_present xs q)
-has_put_all xs es q = ap (λ l. is_present l q) (put_all_is xs es) ∙ has_put_each xs es q
 
 kept_moved : (files : Entries) (from to : Path) (i : ℕ) (left : Entries) (q : Path) → is_present (put_all (moved_files (take i files) from to) left) q ≡ true → is_present (put_all (moved_files files from to) left) q ≡ true
 kept_moved files from to i left q h =

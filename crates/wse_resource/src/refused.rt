@@ -1,7 +1,8 @@
 // Why a resource operation isn't done.
 use wse_path::{Memory, RelPath};
 
-/// Why a resource operation isn't done. The first that holds counts: this project's own rule.
+/// Why a resource operation isn't done. Of several causes the one that the table of operations names first counts: this
+/// project's own rule.
 #[derive(Debug, Drop)]
 pub enum OpRefused {
     /// There is a file or a folder at the path already, and neither option says what to do.
@@ -18,7 +19,7 @@ pub enum OpRefused {
     IntoItself,
     /// The old path of a rename is under the new one.
     HoldsSource,
-    /// The first file in path order whose path would pass a limit of paths.
+    /// The first file in path order, by where it stands before, whose new path would pass a limit of paths.
     PathLimit { from: RelPath },
     /// There was no memory for the answer. May come in place of any other answer.
     Memory,

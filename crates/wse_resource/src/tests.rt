@@ -1,5 +1,5 @@
 // Resource operations on small trees.
-use crate::{OpRefused, operate, operated_slowly};
+use crate::{OpRefused, operate, operate_over, operated_slowly};
 use std::alloc::Global;
 use std::process::Abort;
 use std::test::Fail;
@@ -19,18 +19,21 @@ use Asked::{Create, Delete, Rename};
 /// text, or the refusal.
 type Case = (&'static [&'static str], Asked, &'static str);
 
-const CREATES: [Case; 8] = [
+const CREATES: [Case; 11] = [
     (&["a"], Create("b", false, false), "b ->;"),
     (&["a"], Create("a", false, false), "exists"),
     (&["a"], Create("a", false, true), ""),
     (&["a"], Create("a", true, false), "a a>;"),
     (&["a"], Create("a", true, true), "a a>;"),
+    (&["d/x"], Create("d", false, false), "is a folder"),
+    (&["d/x"], Create("d", false, true), "is a folder"),
+    (&["d/x"], Create("d", true, false), "is a folder"),
     (&["d/x"], Create("d", true, true), "is a folder"),
     (&["d/x"], Create("d/x/y", true, true), "beneath d/x"),
     (&["d/x"], Create("d/x/y/z", false, false), "beneath d/x"),
 ];
 
-const RENAMES: [Case; 17] = [
+const RENAMES: [Case; 18] = [
     (
         &["d/x", "d/y", "d/z"],
         Rename("d", "e", false, false),
@@ -45,6 +48,11 @@ const RENAMES: [Case; 17] = [
     (&["a"], Rename("b", "b", true, true), "not found"),
     (&["d/x"], Rename("d/x", "d/x", false, false), ""),
     (&["d/x"], Rename("d", "d", false, false), ""),
+    (
+        &["d/x", "d/y", "d/z"],
+        Rename("d", "d/in", false, false),
+        "into itself",
+    ),
     (
         &["d/in", "d/x"],
         Rename("d", "d/in", false, false),
@@ -191,6 +199,16 @@ fn answer(alloc: Global, tree: &Tree, op: &ResourceOp) -> Result<String, Memory>
     }
 }
 
+#[test]
+fn any_files_that_can_be_looked_up_do(rt: HostRuntime) -> Result<(), Fail> {
+    let alloc = rt.alloc();
+    let tree = tree_of(alloc, &["a"])?;
+    let op = op_of(alloc, Delete("a", false, false))?;
+    let changes = operate_over(alloc, &tree, &op).ok();
+    assert_eq!(rt; changes.map(|changes| changes.len()), Some(1));
+    Ok(())
+}
+
 fn see(rt: &impl Abort, alloc: Global, cases: &[Case]) -> Result<(), Fail> {
     for (files, asked, wanted) in cases {
         let tree = tree_of(alloc, files)?;
@@ -249,12 +267,12 @@ fn deep(alloc: Global, folder: &str, times: u8, file: &str) -> Result<String, Me
 fn the_first_path_past_a_limit_is_named(rt: HostRuntime) -> Result<(), Fail> {
     let alloc = rt.alloc();
     let name = repeated(alloc, "n", 255)?;
-    // The second of three files would have 65 segments, or a text of 4,097 bytes.
+    // In path order the first of three files just fits, and the others would have 65 segments, or a text of 4,097 bytes.
     for (folder, fits, past, target) in [
         ("a", 61, 62, "e/f"),
         (name.as_str(), 14, 15, name.as_str()),
     ] {
-        let small = deep(alloc, folder, fits, "x")?;
+        let small = deep(alloc, folder, fits, "A")?;
         let first = deep(alloc, folder, past, "x")?;
         let second = deep(alloc, folder, past, "y")?;
         let tree = tree_of(alloc, &[second.as_str(), first.as_str(), small.as_str()])?;
