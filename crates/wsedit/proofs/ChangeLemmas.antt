@@ -11,12 +11,12 @@ use Rattle.std.proofs.lemmas.Bool.{or_parts}
 use Rattle.std.proofs.lemmas.List.Folds.{list_any-append}
 use Rattle.wse_path.specs.Path.{Path}
 use Rattle.wse_path.specs.Order.{path_cmp}
-use Rattle.wse_path.specs.Tree.{Entries, content, is_present, put_file, put_all, remove_file}
+use Rattle.wse_path.specs.Tree.{Entries, content, put_file, put_all, remove_file}
 use Rattle.wse_path.specs.Changes.{is_same, change_at, paths_of_both, changes_between}
 use Rattle.wse_path.specs.declared.change.Change.{Change}
 use Rattle.wse_path.proofs.TreeLemmas.{rises_put}
 use Rattle.wse_path.proofs.TreeLemmas.{rises_remove, same_path, tied_path, tied_itself}
-use Rattle.wse_resource.proofs.SlowLemmas.{has_put_all}
+use Rattle.wse_resource.proofs.EntriesLemmas.{has_put_all}
 use Rattle.wsedit.specs.Session.{erased, erased_at, stored, stored_at, is_changed}
 
 -- the content that a removal leaves

@@ -1,5 +1,5 @@
 -- What an operation is answered, and what it leaves, by its changes.
-use Rattle.std.proofs.Common.{◌≡◌, ℕ, ◌+◌, ◌<◌, ◌≤◌, false, cond, List, [], ◌∷◌, length, Some, Result, Ok, Err, refl, sym, ap, ◌∙◌, nat_eq, arith}
+use Rattle.std.proofs.Common.{◌≡◌, ℕ, ◌+◌, ◌<◌, ◌≤◌, false, cond, List, [], ◌∷◌, length, Some, Result, Ok, Err, refl, sym, ap, subst, ◌∙◌, nat_eq, arith}
 use Rattle.std.proofs.lemmas.Bool.{le-ltb, lt-ltb}
 use Rattle.wse_path.specs.Tree.{Entries, IsTree}
 use Rattle.wse_path.specs.Changes.{changes_between}
@@ -8,7 +8,10 @@ use Rattle.wse_path.specs.declared.operation.ResourceOp.{ResourceOp}
 use Rattle.wse_resource.specs.Operated.{operated, changes_to, changed, LeavesTree}
 use Rattle.wse_resource.specs.declared.refused.OpRefused.{OpRefused}
 use Rattle.wsedit.specs.Machine.{State, raised, with_versions, reply_to_changes, after_changes, reply_to_tree, after_tree, reply_to, after_op}
-use Rattle.wsedit.specs.Session.{LeadToTree, changed_state}
+use Rattle.wse_disk.specs.Calls.{Standing}
+use Rattle.wsedit.specs.Session.{LeadToTree, DiffersWithin, LeavesWithin, LeavesBetween, changed_state}
+use Rattle.wsedit.specs.declared.session.Stopped.{Stopped}
+use Rattle.wsedit.specs.declared.session.Stopped.TheVariants.{Disk, Memory}
 use Rattle.wsedit.specs.declared.reply.Reply.TheVariants.{Applied, Limit}
 use Rattle.wsedit.proofs.StepLemmas.{finished}
 
@@ -61,13 +64,19 @@ made_by serial s new (c ∷ cs) some l =
     )
 
 pub made : (serial : ℕ) (s : State) (op : ResourceOp) (cs : List Change) → IsTree s.files → LeavesTree s.files op → changed s.files op ≡ Ok cs → nat_eq (length cs) 0 ≡ false → s.done < serial
-    → (changed_state s cs ≡ after_op serial s op) × (Applied (raised s.versions cs) (Some (s.done + 1)) ≡ reply_to serial s op)
+    → (changed_state s cs ≡ after_op serial s op) × (Applied (raised s.versions cs) (Some (s.done + 1)) ≡ reply_to serial s op) × (cs ≡ changes_between s.files (after_op serial s op).files)
 unfolding leads from_tree
 made serial s op cs tree leaves e some l =
     let from = from_tree s.files op cs e in
     let by = made_by serial s from.new cs some l in
-    let done = finished s.files cs (leads s.files op cs tree leaves e) in (
-      (λ i. record { files = done i; versions = with_versions (raised s.versions cs) s.versions; done = s.done + 1 })
-          ∙ by.0 ∙ ap (after_changes serial s from.new) from.between ∙ sym (ap (after_tree serial s) from.operated_is),
+    let done = finished s.files cs (leads s.files op cs tree leaves e) in
+    let next = by.0 ∙ ap (after_changes serial s from.new) from.between ∙ sym (ap (after_tree serial s) from.operated_is) in (
+      (λ i. record { files = done i; versions = with_versions (raised s.versions cs) s.versions; done = s.done + 1 }) ∙ next,
       by.1 ∙ ap (reply_to_changes serial s) from.between ∙ sym (ap (reply_to_tree serial s) from.operated_is),
+      from.between ∙ ap (λ (t : State). changes_between s.files t.files) next,
     )
+
+-- what changes that stopped leave, where they lead to the next state
+pub leaves_between : {D : Type 0} (stands : D → Standing) (s next : State) (cs : List Change) → cs ≡ changes_between s.files next.files → (stopped : Stopped D) → LeavesWithin stands s cs stopped → LeavesBetween stands s next stopped
+leaves_between stands s next cs e (Disk disk) left = subst (λ es. DiffersWithin es s.files (stands disk)) e left
+leaves_between stands s next cs e (Memory disk) left = left

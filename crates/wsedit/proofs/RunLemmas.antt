@@ -7,13 +7,13 @@ use Rattle.wse_io.specs.Stream.{Piece, bytes_of, AllAt, IsPrefix}
 use Rattle.wse_io.proofs.StreamLemmas.{prefix-nil, prefix_of, prefix_behind, bytes_of-nil, bytes_of-append, within-nil, within-append, within_at, within_wider}
 use Rattle.wsedit.specs.declared.setting.Setting.{Setting}
 use Rattle.wsedit.specs.Machine.{State, after, transcript, state_after}
-use Rattle.wsedit.specs.Session.{StandsFor}
-use Rattle.wsedit.specs.Run.{IsTorn, HoldsFront, Ran, LeavesBehind, fault_disk, fault_of, IsDiskFault}
+use Rattle.wsedit.specs.Session.{StandsFor, LeavesBetween}
+use Rattle.wsedit.specs.Run.{IsTornByNext, HoldsFront, Ran, fault_disk, fault_of, IsDiskFault}
 use Rattle.wsedit.specs.declared.session.Stopped.{Stopped}
 use Rattle.wsedit.specs.declared.session.Stopped.TheVariants.{Disk, Memory}
 use Rattle.wsedit.proofs.Transcript.{transcript-append, state_after-nil, state_after-one, state_after-append}
 
-torn_wider : (setting : Setting) (s : State) (xs ys : List (List ℕ)) (disk : Standing) → IsTorn setting s xs disk → IsTorn setting s (xs ++ ys) disk
+torn_wider : (setting : Setting) (s : State) (xs ys : List (List ℕ)) (disk : Standing) → IsTornByNext setting s xs disk → IsTornByNext setting s (xs ++ ys) disk
 torn_wider setting s [] ys disk h = absurd h
 torn_wider setting s (x ∷ xs) ys disk h = h
 
@@ -25,9 +25,9 @@ holds_wider failed setting n s xs ys out disk h =
       front = h.front;
       within = omega (arith, h.within, length-append xs ys);
       answered = subst (λ ls. IsPrefix out (transcript setting n s ls)) (sym front) h.answered;
-      left = subst (λ ls. StandsFor disk (state_after setting s ls) ⊎ (failed × IsTorn setting (state_after setting s ls) (drop h.front (xs ++ ys)) disk)) (sym front)
+      left = subst (λ ls. StandsFor disk (state_after setting s ls) ⊎ (failed × IsTornByNext setting (state_after setting s ls) (drop h.front (xs ++ ys)) disk)) (sym front)
           (⊎_elim (λ same. inl same)
-          (λ torn. inr (torn.0, subst (λ ls. IsTorn setting (state_after setting s (take h.front xs)) ls disk) (sym (drop-append-le h.front xs ys h.within)) (torn_wider setting (state_after setting s (take h.front xs)) (drop h.front xs) ys disk torn.1)))
+          (λ torn. inr (torn.0, subst (λ ls. IsTornByNext setting (state_after setting s (take h.front xs)) ls disk) (sym (drop-append-le h.front xs ys h.within)) (torn_wider setting (state_after setting s (take h.front xs)) (drop h.front xs) ys disk torn.1)))
           h.left);
     }
 
@@ -42,9 +42,9 @@ holds_behind failed setting n s xs ys out disk h =
       within = omega (arith, h.within, length-append xs ys);
       answered = subst (λ ls. IsPrefix (transcript setting n s xs ++ out) (transcript setting n s ls)) (sym front)
           (subst (λ t. IsPrefix (transcript setting n s xs ++ out) t) (sym (transcript-append setting n s xs (take h.front ys))) (prefix_behind (transcript setting n s xs) out _ h.answered));
-      left = subst (λ ls. StandsFor disk (state_after setting s ls) ⊎ (failed × IsTorn setting (state_after setting s ls) (drop (length xs + h.front) (xs ++ ys)) disk)) (sym front)
-          (subst (λ u. StandsFor disk u ⊎ (failed × IsTorn setting u (drop (length xs + h.front) (xs ++ ys)) disk)) (sym (state_after-append setting s xs (take h.front ys)))
-          (subst (λ ls. StandsFor disk (state_after setting (state_after setting s xs) (take h.front ys)) ⊎ (failed × IsTorn setting (state_after setting (state_after setting s xs) (take h.front ys)) ls disk)) (sym back) h.left));
+      left = subst (λ ls. StandsFor disk (state_after setting s ls) ⊎ (failed × IsTornByNext setting (state_after setting s ls) (drop (length xs + h.front) (xs ++ ys)) disk)) (sym front)
+          (subst (λ u. StandsFor disk u ⊎ (failed × IsTornByNext setting u (drop (length xs + h.front) (xs ++ ys)) disk)) (sym (state_after-append setting s xs (take h.front ys)))
+          (subst (λ ls. StandsFor disk (state_after setting (state_after setting s xs) (take h.front ys)) ⊎ (failed × IsTornByNext setting (state_after setting (state_after setting s xs) (take h.front ys)) ls disk)) (sym back) h.left));
     }
   where
     drop_behind : (es fs : List (List ℕ)) (k : ℕ) → drop (length es + k) (es ++ fs) ≡ drop k fs
@@ -81,12 +81,12 @@ holds_none failed setting n s ls disk same = record {
 }
 
 -- nothing is answered, and the disk failed in the first line
-pub holds_torn : (failed : Type 0) (setting : Setting) (n : ℕ) (s : State) (ls : List (List ℕ)) (disk : Standing) → failed → IsTorn setting s ls disk → HoldsFront failed setting n s ls [] disk
+pub holds_torn : (failed : Type 0) (setting : Setting) (n : ℕ) (s : State) (ls : List (List ℕ)) (disk : Standing) → failed → IsTornByNext setting s ls disk → HoldsFront failed setting n s ls [] disk
 holds_torn failed setting n s ls disk f torn = record {
   front = 0;
   within = omega arith;
   answered = prefix-nil _;
-  left = inr (f, subst (λ u. IsTorn setting u ls disk) (sym (state_after-nil setting s)) torn);
+  left = inr (f, subst (λ u. IsTornByNext setting u ls disk) (sym (state_after-nil setting s)) torn);
 }
 
 -- before the first line
@@ -151,7 +151,7 @@ ran_emitted tells failed began ended disk setting n s line ps later at front sam
 
 -- a line that stopped
 pub ran_stopped : {D : Type 0} (tells : Type 0) (stands : D → Standing) (moment : D → ℕ) (began : ℕ) (setting : Setting) (n : ℕ) (s : State) (line : List ℕ) (stopped : Stopped D) → began ≤ moment (fault_disk (fault_of stopped))
-    → (tells → LeavesBehind stands setting s line stopped)
+    → (tells → LeavesBetween stands s (after setting s line) stopped)
     → Ran tells (IsDiskFault (Err (fault_of stopped))) began (moment (fault_disk (fault_of stopped))) (stands (fault_disk (fault_of stopped))) setting n s (line ∷ []) []
 ran_stopped tells stands moment began setting n s line (Disk disk) later left = ran_silent tells _ began (moment disk) (stands disk) setting n s (line ∷ []) later (λ told. holds_torn _ setting n s (line ∷ []) (stands disk) tt (left told))
 ran_stopped tells stands moment began setting n s line (Memory disk) later left = ran_silent tells _ began (moment disk) (stands disk) setting n s (line ∷ []) later (λ told. holds_none _ setting n s (line ∷ []) (stands disk) (left told))

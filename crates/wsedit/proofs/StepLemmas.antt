@@ -1,5 +1,5 @@
 -- Each change finds room, and all of them leave the new tree.
-use Rattle.std.proofs.Common.{◌≡◌, inl, inr, ℕ, ◌<◌, Bool, true, false, cond, not, ◌&&◌, List, ◌∷◌, ◌++◌, take, length, get_or, Option, Some, None, is_some, refl, sym, ap, subst, ◌∙◌, ◌≢◌, arith, length-append}
+use Rattle.std.proofs.Common.{◌≡◌, ℕ, ◌<◌, Bool, true, false, cond, ◌&&◌, List, ◌∷◌, ◌++◌, take, length, get_or, Option, Some, None, is_some, refl, sym, ap, subst, ◌∙◌, ◌≢◌, arith, length-append}
 use Rattle.std.proofs.Math.Seq.{take-append_seam, get_or-append_seam}
 use Rattle.std.specs.Prelude.{is_none}
 use Rattle.std.specs.FinMap.{slice_cmp-IsAntisymmetric, nat_cmp-IsAntisymmetric}
@@ -7,14 +7,13 @@ use Rattle.std.specs.FinMap.Entries.{same_entries}
 use Rattle.std.specs.Cmp.Lexicographic.{lists_total, nat_list_cmp_total}
 use Rattle.wse_path.specs.Path.{Path}
 use Rattle.wse_path.specs.Order.{path_cmp}
-use Rattle.wse_path.specs.Tree.{Entries, content, is_present, HasRoom, IsTree}
+use Rattle.wse_path.specs.Tree.{Entries, content, HasRoom}
 use Rattle.wse_path.specs.Changes.{is_same, paths_of_both}
 use Rattle.wse_path.specs.declared.change.Change.{Change}
 use Rattle.wse_path.proofs.EntryLemmas.{to_so}
-use Rattle.wse_path.proofs.TreeLemmas.{none_any_where, near_parts, not_tied}
 use Rattle.wse_disk.specs.Calls.{Standing}
 use Rattle.wse_disk.specs.Reading.{Write, path_of, DiffersAt}
-use Rattle.wse_resource.proofs.SlowLemmas.{room_in}
+use Rattle.wse_resource.proofs.RoomLemmas.{room_in}
 use Rattle.wsedit.specs.Session.{erased, stored, is_changed, LeadToTree, DiffersWithin}
 use Rattle.wsedit.proofs.ChangeLemmas.{AllTrue, all_true, true_take, true_at, changed_at, unchanged_take, content_erased, content_stored, unchanged_same, rises_erased, rises_stored}
 

@@ -1,16 +1,14 @@
 -- A run over lines: what was emitted, and what the disk holds.
 use Rattle.std.specs.Prelude.{◌≡◌, ◌⊎◌, ⊤, ℕ, ◌+◌, ◌≤◌, Bool, true, false, List, [], ◌∷◌, length, take, drop, Option, IfSome, Result, Ok, Err}
 use Rattle.wse_path.specs.Causes.{Rose}
-use Rattle.wse_path.specs.declared.operation.ResourceOp.{ResourceOp}
 use Rattle.wse_disk.specs.Calls.{Standing}
 use Rattle.wse_io.specs.Stream.{Piece, Adds, Takes, IsPrefix, bytes_of, Within}
 use Rattle.wse_io.specs.Lines.{lines}
 use Rattle.wse_io.specs.declared.lines.LineFault.{LineFault}
 use Rattle.wse_io.specs.declared.lines.LineFault.TheVariants as line_faults
-use Rattle.wse_json.specs.One.{one}
 use Rattle.wsedit.specs.declared.setting.Setting.{Setting}
-use Rattle.wsedit.specs.Machine.{State, transcript, state_after}
-use Rattle.wsedit.specs.Session.{StandsFor, IsTornBy}
+use Rattle.wsedit.specs.Machine.{State, after, transcript, state_after}
+use Rattle.wsedit.specs.Session.{StandsFor, IsTorn}
 use Rattle.wsedit.specs.declared.session.Session.{Session}
 use Rattle.wsedit.specs.declared.session.Stopped.{Stopped}
 use Rattle.wsedit.specs.declared.session.Stopped.TheVariants as stopped
@@ -20,10 +18,10 @@ use Rattle.wsedit.specs.declared.serve.ServeEnd.{ServeEnd}
 use Rattle.wsedit.specs.declared.serve.ServeEnd.TheVariants.{Done, Read, Write, Disk, Memory, InputLimit}
 use Rattle.wsedit.specs.declared.serve.Served.{Served}
 
--- What is read is the tree of the state, but for paths that the next line changes.
-abbrev pub IsTorn : Setting → State → List (List ℕ) → Standing → Type 0
-IsTorn setting s [] disk = ⊥
-IsTorn setting s (line ∷ rest) disk = (op : ResourceOp) × (one setting.root line ≡ Ok op) × IsTornBy s op disk
+-- What is read is a tree, which differs from that of the state only at paths whose content the next line changes.
+abbrev pub IsTornByNext : Setting → State → List (List ℕ) → Standing → Type 0
+IsTornByNext setting s [] disk = ⊥
+IsTornByNext setting s (line ∷ rest) disk = IsTorn s (after setting s line) disk
 
 -- What is read is the tree after a front of the lines, and what is out are answers to this front. Where the disk failed in
 -- the line behind it (`failed`), the paths that this line changes may differ.
@@ -31,7 +29,7 @@ pub record HoldsFront (failed : Type 0) (setting : Setting) (n : ℕ) (s : State
   pub front : ℕ
   pub within : front ≤ length ls
   pub answered : IsPrefix out (transcript setting n s (take front ls))
-  pub left : StandsFor disk (state_after setting s (take front ls)) ⊎ (failed × IsTorn setting (state_after setting s (take front ls)) (drop front ls) disk)
+  pub left : StandsFor disk (state_after setting s (take front ls)) ⊎ (failed × IsTornByNext setting (state_after setting s (take front ls)) (drop front ls) disk)
 
 -- A run from one moment of a disk to another, over lines from number n on.
 pub record Ran (tells failed : Type 0) (began ended : ℕ) (disk : Standing) (setting : Setting) (n : ℕ) (s : State) (ls : List (List ℕ)) (added : List Piece) : Type 0 where
@@ -40,11 +38,6 @@ pub record Ran (tells failed : Type 0) (began ended : ℕ) (disk : Standing) (se
   pub output : IsPrefix (bytes_of added) (transcript setting n s ls)
   pub times : Within began ended added
   pub holds : tells → HoldsFront failed setting n s ls (bytes_of added) disk
-
--- What a line that stopped leaves on a disk that tells.
-abbrev pub LeavesBehind : {D : Type 0} → (D → Standing) → Setting → State → List ℕ → Stopped D → Type 0
-LeavesBehind stands setting s line (stopped.Disk disk) = IsTorn setting s (line ∷ []) (stands disk)
-LeavesBehind stands setting s line (stopped.Memory disk) = StandsFor (stands disk) s
 
 -- The disk that a fault hands back.
 abbrev pub fault_disk : {D : Type 0} → ServeFault D → D

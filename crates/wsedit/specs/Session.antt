@@ -9,9 +9,7 @@ use Rattle.wse_path.specs.Order.{path_cmp}
 use Rattle.wse_path.specs.Changes.{changes_between}
 use Rattle.wse_path.specs.Versions.{Numbers, version_of, bumped}
 use Rattle.wse_path.specs.declared.change.Change.{Change}
-use Rattle.wse_path.specs.declared.operation.ResourceOp.{ResourceOp}
 use Rattle.wse_disk.specs.Calls.{Standing, bytes_or_none}
-use Rattle.wse_resource.specs.Operated.{changed}
 use Rattle.wsedit.specs.Machine.{State, raised, with_versions}
 use Rattle.wsedit.specs.declared.session.Session.{Session}
 use Rattle.wsedit.specs.declared.session.Stopped.{Stopped}
@@ -68,9 +66,9 @@ pub record DiffersWithin (changes : List Change) (files : Entries) (disk : Stand
   pub tree : IsTree disk.reading.files
   pub others : (q : Path) → is_changed changes q ≡ false → content disk.reading.files q ≡ content files q
 
--- What is read is the tree of the state, but for paths that the operation changes.
-abbrev pub IsTornBy : State → ResourceOp → Standing → Type 0
-IsTornBy s op disk = (changes : List Change) × (changed s.files op ≡ Ok changes) × DiffersWithin changes s.files disk
+-- What is read is a tree, which differs from that of the state only where the one of the next state does.
+abbrev pub IsTorn : (s next : State) → Standing → Type 0
+IsTorn s next disk = DiffersWithin (changes_between s.files next.files) s.files disk
 
 -- The versions with each of these paths one higher.
 abbrev pub bumped_all : List Path → Numbers → Numbers
@@ -112,10 +110,10 @@ abbrev pub LeavesWithin : {D : Type 0} → (D → Standing) → State → List C
 LeavesWithin stands s changes (Disk disk) = DiffersWithin changes s.files (stands disk)
 LeavesWithin stands s changes (Memory disk) = StandsFor (stands disk) s
 
--- The same of an operation.
-abbrev pub LeavesAt : {D : Type 0} → (D → Standing) → State → ResourceOp → Stopped D → Type 0
-LeavesAt stands s op (Disk disk) = IsTornBy s op (stands disk)
-LeavesAt stands s op (Memory disk) = StandsFor (stands disk) s
+-- The same of a step to the next state.
+abbrev pub LeavesBetween : {D : Type 0} → (D → Standing) → (s next : State) → Stopped D → Type 0
+LeavesBetween stands s next (Disk disk) = IsTorn s next (stands disk)
+LeavesBetween stands s next (Memory disk) = StandsFor (stands disk) s
 
 -- The count of faults doesn't fall, and rose where the step ended with a fault of the disk.
 abbrev pub StepCause : {D A : Type 0} → (D → ℕ) → D → Result (Session D × A) (Stopped D) → Type 0

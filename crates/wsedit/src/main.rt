@@ -14,6 +14,7 @@ mod write;
 use crate::status::Status;
 pub use program::{Bounds, Ended, run, run_within};
 use std::env;
+use std::io::ErrorKind;
 use std::process::ExitCode;
 use std::rt::Env;
 use wse_disk::MemDisk;
@@ -23,8 +24,10 @@ use wse_path::{Memory, Tree};
 /// The words after the program's name. Where one isn't UTF-8 there are none, so that they aren't understood.
 fn program_words(rt: &(impl Env + AllocGlobal)) -> Result<Vec<String>, Memory> {
     let mut words = Vec::new(rt.alloc());
-    let Ok(all) = env::args(rt) else {
-        return Ok(words);
+    let all = match env::args(rt) {
+        Ok(all) => all,
+        Err(error) if error.kind() == ErrorKind::OutOfMemory => return Err(Memory),
+        Err(_) => return Ok(words),
     };
     for word in all.skip(1) {
         words.push(word)?;

@@ -4,8 +4,8 @@ ghost use Rattle.wse_path.specs.Limits.{standard};
 ghost use Rattle.wse_uri.specs.FileUrl.{IsPlainFileUrl};
 ghost use Rattle.wse_io.specs.Stream.{Piece, Adds, bytes_of};
 ghost use Rattle.wsedit.specs.Machine.{reply, after, transcript};
-ghost use Rattle.wsedit.specs.Session.{state_of, StandsFor, IsSound, disk_after, stopped_disk, StepCause, StepLasts};
-ghost use Rattle.wsedit.specs.Run.{LeavesBehind, Ran, Runs, one_disk, fault_disk, IsDiskFault, fault_of, OneCause, OneLasts, Lasts, end_of_lines, end_of_one, EndCause};
+ghost use Rattle.wsedit.specs.Session.{state_of, StandsFor, IsSound, disk_after, stopped_disk, LeavesBetween, StepCause, StepLasts};
+ghost use Rattle.wsedit.specs.Run.{Ran, Runs, one_disk, fault_disk, IsDiskFault, fault_of, OneCause, OneLasts, Lasts, end_of_lines, end_of_one, EndCause};
 
 use crate::reply::{Reply, reply_text};
 use crate::session::{Session, Stopped};
@@ -65,7 +65,8 @@ fn perform<D: Disk>(
         × (x.1 ≡ reply setting.now (state_of session) line.now)) }
     ensures sound { IfOk result (λ x. IsSound setting.now.serial (state_of x.0)) }
     ensures agrees { D.tells → IfOk result (λ x. StandsFor (D.stands x.0.disk) (state_of x.0)) }
-    ensures left { D.tells → IfErr result (LeavesBehind D.stands setting.now (state_of session) line.now) }
+    ensures left { D.tells → IfErr result
+        (LeavesBetween D.stands (state_of session) (after setting.now (state_of session) line.now)) }
     ensures lasts { D.tells → StepLasts D.stands session.disk result }
     ensures later { D.moment_of session.disk ≤ D.moment_of (disk_after result) }
     ensures cause { StepCause D.faults session.disk result }

@@ -3,9 +3,8 @@ ghost use Rattle.std.specs.Prelude.{◌≡◌, ◌+◌, ◌-◌, ◌^◌, ◌≤
 ghost use Rattle.wse_path.specs.Path.{Path};
 ghost use Rattle.wse_path.specs.Limits.{standard};
 ghost use Rattle.wse_path.specs.Versions.{version_of};
-ghost use Rattle.wse_resource.specs.Operated.{changed};
 ghost use Rattle.wsedit.specs.Machine.{raised, reply_to, after_op};
-ghost use Rattle.wsedit.specs.Session.{state_of, StandsFor, IsSound, LeadToTree, changed_state, LeavesAt, LeavesWithin, disk_after, StepCause, StepLasts};
+ghost use Rattle.wsedit.specs.Session.{state_of, StandsFor, IsSound, LeadToTree, changed_state, LeavesBetween, LeavesWithin, disk_after, StepCause, StepLasts};
 
 use crate::reply::Reply;
 use crate::write::{bump_all, put_all, remove_all, write_all};
@@ -114,7 +113,7 @@ impl<D: Disk> Session<D> {
             × (x.1 ≡ reply_to serial (state_of self) op.now)) }
         ensures sound { IfOk result (λ x. IsSound serial (state_of x.0)) }
         ensures agrees { D.tells → IfOk result (λ x. StandsFor (D.stands x.0.disk) (state_of x.0)) }
-        ensures left { D.tells → IfErr result (LeavesAt D.stands (state_of self) op.now) }
+        ensures left { D.tells → IfErr result (LeavesBetween D.stands (state_of self) (after_op serial (state_of self) op.now)) }
         ensures lasts { D.tells → StepLasts D.stands self.disk result }
         ensures later { D.moment_of self.disk ≤ D.moment_of (disk_after result) }
         ensures cause { StepCause D.faults self.disk result }

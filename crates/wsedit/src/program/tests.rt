@@ -297,26 +297,52 @@ fn a_failed_operation_says_why(rt: HostRuntime) -> Result<(), Fail> {
     Ok(())
 }
 
+/// The change with `/` and the segment that many times at the end of its URI, which is its last member.
+fn with_segments(alloc: Global, change: &str, segment: &str, times: u8) -> Result<String, Fail> {
+    let mut text = String::from_str(alloc, change)?;
+    for _ in 0..times {
+        text.push('/')?;
+        text.push_str(segment)?;
+    }
+    text.push_str("\"}")?;
+    Ok(text)
+}
+
 #[test]
 fn a_path_past_its_limit_is_named(rt: HostRuntime) -> Result<(), Fail> {
     let alloc = rt.alloc();
-    let mut operation = String::from_str(
-        alloc,
-        r#"{"kind":"rename","oldUri":"file:///w/d","newUri":"file:///w"#,
-    )?;
-    for _ in 0..64 {
-        operation.push_str("/e")?;
-    }
-    operation.push_str("\"}")?;
-    let answer = failed(alloc, "path limit for d/x")?;
+    let rename = r#"{"kind":"rename","oldUri":"file:///w/d","newUri":"file:///w"#;
+    let operation = with_segments(alloc, rename, "e", 63)?;
+    let answer = failed(alloc, "path limit for d/y/1")?;
     leave(
         &rt,
         alloc,
-        &THREE_FILES,
+        &[("d/x", "1"), ("d/y/1", "2"), ("d/y/2", "3")],
         &[operation.as_str()],
         answer.as_str(),
-        "d/x=1\nd/y=2\nd/z=3\n",
+        "d/x=1\nd/y/1=2\nd/y/2=3\n",
     )
+}
+
+/// The answer to a first line of which a URI is refused.
+fn refused_at(alloc: Global, member: &str, why: &str) -> Result<String, Fail> {
+    Ok(format!(in alloc;
+        "{{\"at\":\"/edit/documentChanges/0/{member}\",\"n\":1,\"refused\":\"uri\",\"why\":\"{why}\"}}\n"
+    )?)
+}
+
+#[test]
+fn a_uri_past_a_limit_says_why(rt: HostRuntime) -> Result<(), Fail> {
+    let alloc = rt.alloc();
+    let delete = r#"{"kind":"delete","uri":"file:///w"#;
+    let deep = with_segments(alloc, delete, "e", 65)?;
+    let answer = refused_at(alloc, "uri", "65 segments")?;
+    leave(&rt, alloc, &[], &[deep.as_str()], answer.as_str(), "")?;
+    // 64 segments of 64 bytes, and 63 times `/`.
+    let segment = "0123456789012345678901234567890123456789012345678901234567890123";
+    let long = with_segments(alloc, delete, segment, 64)?;
+    let answer = refused_at(alloc, "uri", "4159 bytes")?;
+    leave(&rt, alloc, &[], &[long.as_str()], answer.as_str(), "")
 }
 
 #[test]
@@ -334,20 +360,20 @@ fn a_refused_uri_says_why(rt: HostRuntime) -> Result<(), Fail> {
         ("file:///w/a//b", "segment 1 is not a name"),
     ] {
         let operation = format!(in alloc; "{{\"kind\":\"delete\",\"uri\":\"{uri}\"}}")?;
-        let answer = format!(in alloc;
-            "{{\"at\":\"/edit/documentChanges/0/uri\",\"n\":1,\"refused\":\"uri\",\"why\":\"{why}\"}}\n"
-        )?;
+        let answer = refused_at(alloc, "uri", why)?;
         leave(&rt, alloc, &[], &[operation.as_str()], answer.as_str(), "")?;
     }
-    leave(
-        &rt,
-        alloc,
-        &[],
-        &[r#"{"kind":"rename","oldUri":"http://h/a","newUri":"http://h/b"}"#],
-        r#"{"at":"/edit/documentChanges/0/oldUri","n":1,"refused":"uri","why":"not a file URI"}
-"#,
-        "",
-    )
+    for (old, new, member) in [
+        ("http://h/a", "http://h/b", "oldUri"),
+        ("file:///w/a", "http://h/b", "newUri"),
+    ] {
+        let operation = format!(in alloc;
+            "{{\"kind\":\"rename\",\"oldUri\":\"{old}\",\"newUri\":\"{new}\"}}"
+        )?;
+        let answer = refused_at(alloc, member, "not a file URI")?;
+        leave(&rt, alloc, &[], &[operation.as_str()], answer.as_str(), "")?;
+    }
+    Ok(())
 }
 
 #[test]
@@ -382,18 +408,26 @@ fn one_edit_too_many_changes_nothing(rt: HostRuntime) -> Result<(), Fail> {
 #[test]
 fn a_command_writes_what_it_changes_and_nothing_else(rt: HostRuntime) -> Result<(), Fail> {
     let alloc = rt.alloc();
-    let case = Case {
-        files: &THREE_FILES,
-        ..PLAIN
-    };
-    for (operation, moment) in [
+    for (operation, max_serial, moment) in [
         // Three files are erased, three stored, and then all is synced.
-        (RENAME_D_TO_E, 7),
-        (CREATE_A, 2),
-        (DELETE_A, 0),
-        (r#"{"kind":"delete","uri":"file:///w/d/x"}"#, 2),
+        (RENAME_D_TO_E, 1, 7),
+        (CREATE_A, 1, 2),
+        (r#"{"kind":"delete","uri":"file:///w/d/x"}"#, 1, 2),
+        // Nothing changes: refused, applied without a change, and one edit too many.
+        (DELETE_A, 1, 0),
+        (
+            r#"{"kind":"delete","uri":"file:///w/a","options":{"ignoreIfNotExists":true}}"#,
+            1,
+            0,
+        ),
+        (CREATE_A, 0, 0),
     ] {
         let input = edits(alloc, &[operation])?;
+        let case = Case {
+            files: &THREE_FILES,
+            max_serial,
+            ..PLAIN
+        };
         let got = run_case(&rt, alloc, case, input.as_str())?;
         assert_eq!(rt; got.moment, moment, "{operation}");
     }
