@@ -1,7 +1,7 @@
 #!/usr/bin/env python3
 """Prints how long the built program takes for a line, over more and more creates in nested folders.
 
-The program is built by `bin/wsedit` first. The creates come in path order, and then in an order that scatters them."""
+`bin/wsedit`, run once before, builds the program. The creates come in path order, and then in an order that scatters them."""
 
 import os
 import subprocess
@@ -13,7 +13,7 @@ COUNTS = (1_000, 8_000, 64_000)
 
 
 def paths(count):
-    """Paths of files three folders deep, in path order."""
+    """Paths of files two folders deep, in path order."""
     return [f"d{i // 1600:02}/e{i // 40 % 40:02}/f{i % 40:02}" for i in range(count)]
 
 
