@@ -9,7 +9,8 @@ use Rattle.std.specs.declared.cmp.Ordering.{Ordering}
 use Rattle.std.specs.declared.cmp.Ordering.TheVariants.{Less, Equal, Greater}
 use Rattle.std.specs.Ordering.{is_lt, is_eq, eq_by_cmp, ordering_reverse}
 use Rattle.std.specs.Cmp.{IsTotalOrder}
-use Rattle.std.proofs.lemmas.Cmp.{tied_back, alike_right}
+use Rattle.std.specs.Prelude.{is_some}
+use Rattle.std.proofs.lemmas.Cmp.{tied_back, tied_itself, alike_right}
 use Rattle.std.proofs.lemmas.List.Sorted.{searchable_from_sorted}
 use Rattle.wse_path.specs.Place.{HasKeyAt, IsGapAt}
 
@@ -39,7 +40,7 @@ module _ {K : Type 0} {R : K → K → Ordering} (o : IsTotalOrder R) where
   turned_above : (x y k : K) → R x y ≡ Less → R y k ≡ Equal → R k x ≡ Greater
   turned_above x y k l t = o.antisymm k x ∙ ap ordering_reverse (sym (alike_right o y k x t) ∙ l)
 
-  turned : (x k : K) (r : Ordering) → R x k ≡ r → R k x ≡ ordering_reverse r
+  pub turned : (x k : K) (r : Ordering) → R x k ≡ r → R k x ≡ ordering_reverse r
   turned x k r e = o.antisymm k x ∙ ap ordering_reverse e
 
 module _ {K X : Type 0} {R : K → K → Ordering} (o : IsTotalOrder R) where
@@ -117,14 +118,14 @@ module _ {K X : Type 0} {R : K → K → Ordering} (o : IsTotalOrder R) where
       record { found = tt; absent = record { within = l; smaller = λ j d lt. parted.0 j d (omega arith) lt; greater = λ j d le lt. parted.1 j d le lt } }
 
   -- no later key ties with one that is below them all
-  where_below : (es : List (K × X)) (k : K) → below_all R k es ≡ true → where_key R (λ x. not (eq_by_cmp R k x)) es ≡ es
+  pub where_below : (es : List (K × X)) (k : K) → below_all R k es ≡ true → where_key R (λ x. not (eq_by_cmp R k x)) es ≡ es
   where_below [] k h = refl
   where_below (e ∷ es) k h =
       let parts = and_parts (is_lt (R k e.0)) (below_all R k es) h in
       ap (λ r. cond (not (is_eq r)) (e ∷ where_key R (λ x. not (eq_by_cmp R k x)) es) (where_key R (λ x. not (eq_by_cmp R k x)) es)) (less_so (R k e.0) parts.0)
       ∙ ap (λ t. e ∷ t) (where_below es k parts.1)
 
-  below_tied : (es : List (K × X)) (x k : K) → R x k ≡ Equal → below_all R x es ≡ true → below_all R k es ≡ true
+  pub below_tied : (es : List (K × X)) (x k : K) → R x k ≡ Equal → below_all R x es ≡ true → below_all R k es ≡ true
   below_tied [] x k t h = refl
   below_tied (e ∷ es) x k t h =
       let parts = and_parts (is_lt (R x e.0)) (below_all R x es) h in
@@ -193,3 +194,27 @@ module _ {K X : Type 0} {R : K → K → Ordering} (o : IsTotalOrder R) where
 
   pub sorted_behind : (es : List (K × X)) (k : K) → is_sorted R es ≡ true → is_sorted R (where_key R (λ q. is_lt (R k q)) es) ≡ true
   sorted_behind es k s = so _ (is_sorted-where_key R _ es (to_so _ s))
+
+  -- so does a removal
+  pub sorted_remove : (es : List (K × X)) (k : K) → is_sorted R es ≡ true → is_sorted R (where_key R (λ x. not (eq_by_cmp R k x)) es) ≡ true
+  sorted_remove es k s = so _ (is_sorted-where_key R _ es (to_so _ s))
+
+  -- what an edit at the place of a key does
+  pub set_place : (es new : List (K × X)) (k : K) (v : X) (i : ℕ) → is_sorted R es ≡ true → i < length es → HasKeyAt R es k i → ((d : K × X) → new ≡ set es i ((get_or es i d).0, v)) → new ≡ put R k v es
+  set_place [] new k v i s l h is = absurd (omega arith)
+  set_place (e ∷ es) new k v i s l h is = is e ∙ sym (put_at (e ∷ es) k v i e s l (h e))
+
+  pub remove_place : (es : List (K × X)) (k : K) (i : ℕ) → is_sorted R es ≡ true → i < length es → HasKeyAt R es k i → remove es i ≡ where_key R (λ x. not (eq_by_cmp R k x)) es
+  remove_place [] k i s l h = absurd (omega arith)
+  remove_place (e ∷ es) k i s l h = sym (remove_at (e ∷ es) k i e s l (h e))
+
+  pub found_place : (es : List (K × X)) (k : K) (i : ℕ) → is_sorted R es ≡ true → i < length es → HasKeyAt R es k i → is_some (find R k es) ≡ true
+  found_place [] k i s l h = absurd (omega arith)
+  found_place (e ∷ es) k i s l h = ap is_some (find_at (e ∷ es) k i e s l (h e))
+
+  -- the entries but for one rise
+  pub sorted_remove_at : (es : List (K × X)) (i : ℕ) → is_sorted R es ≡ true → i < length es → is_sorted R (remove es i) ≡ true
+  sorted_remove_at [] i s l = absurd (omega arith)
+  sorted_remove_at (e ∷ es) i s l =
+      let k = (get_or (e ∷ es) i e).0 in
+      subst (λ (x : List (K × X)). is_sorted R x ≡ true) (remove_at (e ∷ es) k i e s l (tied_itself o k)) (sorted_remove (e ∷ es) k s)

@@ -10,7 +10,9 @@ use Rattle.std.specs.List.{flat_map}
 use Rattle.std.proofs.Common.{◌++◌}
 use Rattle.std.proofs.Common.{take, zero}
 use Rattle.wse_path.specs.Path.{is_under, is_bad, bytes_of, refusal, refusal_within, text_of}
-use Rattle.wse_path.specs.declared.path.PathRefused.TheVariants.{TooLong}
+use Rattle.std.specs.Prelude.{nat_lt, ◌==◌}
+use Rattle.wse_path.specs.declared.path.PathRefused.{PathRefused}
+use Rattle.wse_path.specs.declared.path.PathRefused.TheVariants.{Empty, TooDeep, TooLong}
 use Rattle.std.proofs.Common.{sym, ◌∙◌, ◌&&◌, ◌-◌, length-append, append_assoc}
 use Rattle.std.proofs.lemmas.Bool.{ne_eqb, le-ltb, lt-ltb}
 use Rattle.std.specs.declared.cmp.Ordering.{Ordering}
@@ -134,3 +136,30 @@ each_utf8 (s ∷ ss) = (IsUtf8-string_bytes s, each_utf8 ss)
 -- the bytes of each segment are UTF-8
 pub all_utf8 : {A : Type 0} (ss : List (String A)) → All IsUtf8 (bytes_of ss)
 all_utf8 ss = All-from_recursion IsUtf8 (bytes_of ss) (each_utf8 ss)
+
+unrefused : (none deep : Bool) (x y : PathRefused) (o : Option PathRefused) → cond none (Some x) (cond deep (Some y) o) ≡ None → (deep ≡ false) × (o ≡ None)
+unrefused true deep x y o h = cc
+unrefused false true x y o h = cc
+unrefused false false x y o h = (refl, h)
+
+unrefused_within : (ss : List (List ℕ)) (first : Option ℕ) → refusal_within ss first ≡ None → (first ≡ None) × (length (text_of ss) ≤ 4096)
+unrefused_within ss (Some index) h = cc
+unrefused_within ss None h =
+    elim (nat_lt 4096 (length (text_of ss))) as (λ b. nat_lt 4096 (length (text_of ss)) ≡ b → cond b (Some (TooLong (length (text_of ss)))) None ≡ None → (◌≡◌ {A = Option ℕ} None None) × (length (text_of ss) ≤ 4096)) [
+      | true ↦ λ e g. cc
+      | false ↦ λ e g. (refl, grind (arith, nat_tests))
+    ] refl h
+
+few_where : (n : ℕ) → nat_lt 64 n ≡ false → n ≤ 64
+few_where n e = grind (arith, nat_tests)
+
+-- what a path's invariant says of its segments
+pub path_facts : {A : Type 0} (ss : List (String A)) → refusal (bytes_of ss) ≡ None → record { few : length ss ≤ 64; good : position is_bad (bytes_of ss) ≡ None; short : length (text_of (bytes_of ss)) ≤ 4096 }
+path_facts ss h =
+    let parts = unrefused (length (bytes_of ss) == 0) (nat_lt 64 (length (bytes_of ss))) Empty (TooDeep (length (bytes_of ss))) (refusal_within (bytes_of ss) (position is_bad (bytes_of ss))) h in
+    let within = unrefused_within (bytes_of ss) (position is_bad (bytes_of ss)) parts.1 in
+    record {
+      few = rw (length_mapped (λ s. string_bytes s) ss) at (few_where (length (bytes_of ss)) parts.0);
+      good = within.0;
+      short = within.1;
+    }

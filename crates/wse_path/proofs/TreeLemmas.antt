@@ -1,5 +1,5 @@
 -- What an edit leaves in order.
-use Rattle.std.specs.FinMap.{find, slice_cmp-IsAntisymmetric, nat_cmp-IsAntisymmetric}
+use Rattle.std.specs.FinMap.{find}
 use Rattle.std.specs.List.{list_any}
 use Rattle.std.specs.Prelude.{is_some, Some, cond}
 use Rattle.std.specs.Ordering.{eq_by_cmp, is_eq, is_lt, ordering_reverse}
@@ -10,7 +10,8 @@ use Rattle.wse_path.specs.Tree.{Entries, is_near, fits, is_folder, entry_above, 
 use Rattle.wse_path.specs.Path.{Path, is_under}
 use Rattle.std.specs.FinMap.Entries.{find-put, find-where_key, below_all, by_order}
 use Rattle.std.proofs.Common.{option_map, ◌++◌, ◌∙◌, ◌≢◌}
-use Rattle.wse_path.proofs.EntryLemmas.{and_parts, less_so, equal_so, so, to_so, sorted_put, find_at, below_at, gap_tail, gap_tail_zero}
+use Rattle.wse_path.proofs.EntryLemmas.{and_parts, less_so, equal_so, sorted_put, sorted_remove, find_at, below_at, gap_tail, gap_tail_zero}
+pub use Rattle.wse_path.proofs.PathOrder.{tied_path, same_path}
 use Rattle.wse_path.proofs.UnderLemmas.{under_behind, under_between}
 use Rattle.wse_path.specs.Place.{IsGapAt}
 use Rattle.std.specs.Prelude.{find as find_entry}
@@ -20,7 +21,6 @@ use Rattle.std.proofs.Common.{◌⊎◌, inl, inr, ◌||◌, length, arith}
 use Rattle.std.proofs.Common.{[], ◌∷◌, ◌≡◌, ℕ, Bool, true, false, List, Option, None, sym, refl, ap}
 use Rattle.std.specs.Prelude.{not}
 use Rattle.std.specs.FinMap.{is_sorted}
-use Rattle.std.specs.FinMap.Entries.{is_sorted-where_key}
 use Rattle.std.specs.Cmp.Lexicographic.{lists_total, nat_list_cmp_total}
 use Rattle.wse_path.specs.Order.{path_cmp}
 use Rattle.wse_path.specs.Tree.{put_file, remove_file}
@@ -29,10 +29,7 @@ pub rises_put : (es : Entries) (p : Path) (bytes : List ℕ) → is_sorted path_
 rises_put es p bytes s = sorted_put (lists_total nat_list_cmp_total) es p bytes s
 
 pub rises_remove : (es : Entries) (p : Path) → is_sorted path_cmp es ≡ true → is_sorted path_cmp (remove_file es p) ≡ true
-rises_remove es p s = so _ (is_sorted-where_key path_cmp _ es (to_so _ s))
-
-pub tied_path : (p q : Path) → path_cmp p q ≡ Equal → p ≡ q
-tied_path p q t = slice_cmp-IsAntisymmetric (slice_cmp-IsAntisymmetric nat_cmp-IsAntisymmetric) p q t
+rises_remove es p s = sorted_remove (lists_total nat_list_cmp_total) es p s
 
 alike_reversed : (o : Ordering) → o ≡ ordering_reverse o → is_eq o ≡ true
 alike_reversed Less e = cc
@@ -41,10 +38,6 @@ alike_reversed Greater e = cc
 
 pub tied_itself : (p : Path) → eq_by_cmp path_cmp p p ≡ true
 tied_itself p = alike_reversed (path_cmp p p) ((lists_total nat_list_cmp_total).antisymm p p)
-
--- paths that tie are equal
-pub same_path : (p q : Path) → eq_by_cmp path_cmp p q ≡ true → p ≡ q
-same_path p q t = tied_path p q (equal_so _ t)
 
 -- what `find` finds is one of the entries, so a test that none passes fails at its key
 none_near : (es : Entries) (p q : Path) → list_any (λ e. is_near p e.0) es ≡ false → is_some (find path_cmp q es) ≡ true → is_near p q ≡ false
@@ -134,10 +127,10 @@ present_front (e ∷ es) rest q h =
       | false ↦ λ g. present_front es rest q g
     ] h
 
-present_first : (e : Path × List ℕ) (rest : Entries) → is_present (e ∷ rest) e.0 ≡ true
+pub present_first : (e : Path × List ℕ) (rest : Entries) → is_present (e ∷ rest) e.0 ≡ true
 present_first e rest = ap (λ b. is_some (cond b (Some e.1) (find path_cmp e.0 rest))) (tied_itself e.0)
 
-present_behind : (es : Entries) (e : Path × List ℕ) (rest : Entries) → is_present (es ++ e ∷ rest) e.0 ≡ true
+pub present_behind : (es : Entries) (e : Path × List ℕ) (rest : Entries) → is_present (es ++ e ∷ rest) e.0 ≡ true
 present_behind [] e rest = present_first e rest
 present_behind (f ∷ es) e rest =
     elim (eq_by_cmp path_cmp e.0 f.0) as (λ b. is_some (cond b (Some f.1) (find path_cmp e.0 (es ++ e ∷ rest))) ≡ true) [ true ↦ refl | false ↦ present_behind es e rest ]

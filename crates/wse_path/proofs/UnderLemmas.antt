@@ -5,21 +5,18 @@ use Rattle.std.specs.Option.{unwrap_or}
 use Rattle.std.proofs.lemmas.Option.{unwrap_or-slice_get}
 use Rattle.std.specs.FinMap.{is_sorted}
 use Rattle.std.specs.FinMap.Entries.{where_key, below_all}
-use Rattle.std.specs.Cmp.{IsTotalOrder}
 use Rattle.std.specs.Cmp.Lexicographic.{pointwise}
 use Rattle.std.proofs.lemmas.Bool.Decides.{nat_tests}
 use Rattle.std.specs.Str.{bytes_eq}
 use Rattle.std.specs.Ordering.{nat_cmp, is_eq, is_lt, ordering_then, ordering_reverse}
 use Rattle.std.specs.declared.cmp.Ordering.TheVariants.{Less, Equal, Greater}
-use Rattle.std.specs.Cmp.Lexicographic.{slice_cmp, lists_total, nat_list_cmp_total}
+use Rattle.std.specs.Cmp.Lexicographic.{slice_cmp, nat_list_cmp_total}
 use Rattle.std.proofs.lemmas.Map.Text.{is_eq-slice_cmp}
 use Rattle.std.proofs.lemmas.Bool.{le-ltb, lt-ltb}
 use Rattle.wse_path.specs.Path.{Path, is_under}
 use Rattle.wse_path.specs.Order.{path_cmp}
+use Rattle.wse_path.proofs.PathOrder.{total}
 use Rattle.wse_path.proofs.EntryLemmas.{and_parts, equal_so, less_so, sorted_behind, below_behind}
-
-total : IsTotalOrder path_cmp
-total = lists_total nat_list_cmp_total
 
 -- `is_under`, segment by segment
 abbrev below : Path → Path → Bool
@@ -85,7 +82,7 @@ not_under p a b l m miss =
       | false ↦ λ u. refl
     ] refl
 
-not_behind : (p q : Path) → is_lt (path_cmp p q) ≡ false → is_under q p ≡ false
+pub not_behind : (p q : Path) → is_lt (path_cmp p q) ≡ false → is_under q p ≡ false
 not_behind p q miss =
     elim (is_under q p) as (λ t. is_under q p ≡ t → t ≡ false) [
       | true ↦ λ u. sym (ap is_lt (under_behind q p u)) ∙ miss
@@ -93,11 +90,11 @@ not_behind p q miss =
     ] refl
 
 -- some entry is left
-abbrev some_left : {A : Type 0} → List A → Bool
+abbrev pub some_left : {A : Type 0} → List A → Bool
 some_left [] = false
 some_left (x ∷ xs) = true
 
-any_where : {X : Type 0} (f : Path → Bool) (es : List (Path × X)) → list_any (λ e. f e.0) es ≡ some_left (where_key path_cmp f es)
+pub any_where : {X : Type 0} (f : Path → Bool) (es : List (Path × X)) → list_any (λ e. f e.0) es ≡ some_left (where_key path_cmp f es)
 any_where f [] = refl
 any_where f (e ∷ es) = elim (f e.0) as (λ b. (b || list_any (λ x. f x.0) es) ≡ some_left (cond b (e ∷ where_key path_cmp f es) (where_key path_cmp f es))) [ true ↦ refl | false ↦ any_where f es ]
 
@@ -156,6 +153,10 @@ module _ {X : Type 0} (p : Path) where
   -- from the first that is behind the path and not under it on, none is under it
   pub none_from : (es : List (Path × X)) (i : ℕ) (d : Path × X) → is_sorted path_cmp es ≡ true → i < length (where_behind es) → is_under (get_or (where_behind es) i d).0 p ≡ false → where_under (drop i (where_behind es)) ≡ []
   none_from es i d s l miss = none_at (where_behind es) i d (sorted_behind total es p s) (below_behind total es p) l miss
+
+  -- the same of the first
+  pub none_first : (e : Path × X) (es : List (Path × X)) → is_sorted path_cmp (e ∷ es) ≡ true → below_all path_cmp p (e ∷ es) ≡ true → is_under e.0 p ≡ false → where_under (e ∷ es) ≡ []
+  none_first e es s b miss = none_at (e ∷ es) 0 e s b (omega arith) miss
 
   -- some entry is under the path where the first one behind it is
   pub any_first : (es : List (Path × X)) (e : Path × X) → is_sorted path_cmp es ≡ true → Some e ≡ slice_get (where_behind es) 0 → is_under e.0 p ≡ list_any (λ x. is_under x.0 p) es

@@ -1,8 +1,11 @@
 pub mod Place
 pub mod Path
+pub mod PathMap
 pub mod Order
 pub mod Tree
 pub mod Causes
 pub mod Changes
+pub mod Overlay
 pub mod Versions
+pub mod Label
 pub mod Limits

@@ -1,5 +1,6 @@
 -- A key's place in a list of entries.
-use Rattle.std.specs.Prelude.{◌≡◌, ℕ, ◌<◌, ◌≤◌, List, length, slice_index_or}
+use Rattle.std.specs.Prelude.{◌≡◌, ℕ, ◌<◌, ◌≤◌, ◌&&◌, Bool, true, List, [], ◌∷◌, length, slice_index_or}
+use Rattle.std.specs.Ordering.{is_lt}
 use Rattle.std.specs.declared.cmp.Ordering.{Ordering}
 use Rattle.std.specs.declared.cmp.Ordering.TheVariants.{Less, Equal, Greater}
 
@@ -12,3 +13,8 @@ pub record IsGapAt {K X : Type 0} (R : K → K → Ordering) (es : List (K × X)
   pub within : i ≤ length es
   pub smaller : (j : ℕ) (d : K × X) → j < i → R (slice_index_or es j d).0 k ≡ Less
   pub greater : (j : ℕ) (d : K × X) → i ≤ j → j < length es → R (slice_index_or es j d).0 k ≡ Greater
+
+-- Each entry's key is smaller.
+abbrev pub all_before : {K X : Type 0} → (K → K → Ordering) → List (K × X) → K → Bool
+all_before R [] k = true
+all_before R (e ∷ es) k = is_lt (R e.0 k) && all_before R es k

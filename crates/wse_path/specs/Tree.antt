@@ -1,5 +1,5 @@
 -- Trees: finite maps from paths to bytes in which no path is under another.
-use Rattle.std.specs.Prelude.{◌≡◌, ◌⊎◌, ℕ, Bool, true, false, not, ◌||◌, List, [], ◌∷◌, map, Option, option_map, is_some}
+use Rattle.std.specs.Prelude.{◌≡◌, ◌⊎◌, ℕ, ◌-◌, ◌^◌, min, Bool, true, false, not, ◌||◌, List, [], ◌∷◌, length, map, sum_by, Option, option_map, is_some}
 use Rattle.std.specs.Prelude.{find as find_entry}
 use Rattle.std.specs.List.{list_any}
 use Rattle.std.specs.FinMap.{find, put, is_sorted}
@@ -7,15 +7,11 @@ use Rattle.std.specs.FinMap.Entries.{where_key}
 use Rattle.std.specs.Ordering.{eq_by_cmp, is_lt}
 use Rattle.wse_path.specs.Path.{Path, is_under}
 use Rattle.wse_path.specs.Order.{path_cmp}
+use Rattle.wse_path.specs.PathMap.{set_value}
 
 -- The files with their contents, in path order: a finite map, which `find` reads.
 abbrev pub Entries : Type 0
 Entries = List (Path × List ℕ)
-
--- A tree as contracts see it, and how many more files find room without taking memory.
-pub record TreeState : Type 0 where
-  pub files : Entries
-  pub spare : ℕ
 
 -- The bytes at a path.
 abbrev pub content : Entries → Path → Option (List ℕ)
@@ -28,14 +24,23 @@ is_present files p = is_some (content files p)
 abbrev pub put_file : Entries → Path → List ℕ → Entries
 put_file files p bytes = put path_cmp p bytes files
 
+-- The files but for the one at the path.
+abbrev pub remove_file : Entries → Path → Entries
+remove_file files p = where_key path_cmp (λ q. not (eq_by_cmp path_cmp p q)) files
+
+-- The files with these bytes at the path, or without the path where there are none.
+abbrev pub set_file : Entries → Path → Option (List ℕ) → Entries
+set_file files p bytes = set_value files p bytes
+
+-- The files with each of these paths set, one after another.
+abbrev pub set_files : List (Path × Option (List ℕ)) → Entries → Entries
+set_files [] files = files
+set_files (c ∷ more) files = set_files more (set_file files c.0 c.1)
+
 -- The files with all of these put, one after another.
 abbrev pub put_all : Entries → Entries → Entries
 put_all [] files = files
 put_all (e ∷ more) files = put_all more (put_file files e.0 e.1)
-
--- The files but for the one at the path.
-abbrev pub remove_file : Entries → Path → Entries
-remove_file files p = where_key path_cmp (λ q. not (eq_by_cmp path_cmp p q)) files
 
 -- The second path is at the first, above it or under it.
 abbrev pub is_near : Path → Path → Bool
@@ -73,3 +78,13 @@ HasRoom files p = (is_present files p ≡ true) ⊎ (fits files p ≡ true)
 pub record IsTree (files : Entries) : Type 0 where
   pub rises : is_sorted path_cmp files ≡ true
   pub apart : (p q : Path) → is_present files p ≡ true → is_present files q ≡ true → is_under p q ≡ false
+
+-- A tree as contracts see it, and how many more files find room without taking memory.
+pub record TreeState : Type 0 where
+  pub files : Entries
+  pub is_tree : IsTree files
+  pub spare : ℕ
+
+-- The bytes of all files, or 2^64-1 where they are more.
+abbrev pub total_bytes : Entries → ℕ
+total_bytes files = min (sum_by (λ e. length e.1) files) (2 ^ 64 - 1)

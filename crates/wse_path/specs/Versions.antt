@@ -1,17 +1,18 @@
 -- Versions of paths: finite maps from paths to numbers.
-use Rattle.std.specs.Prelude.{ℕ, ◌+◌, List}
-use Rattle.std.specs.FinMap.{find, put}
+use Rattle.std.specs.Prelude.{◌≡◌, ℕ, ◌+◌, ◌-◌, ◌^◌, min, true, List, [], ◌∷◌, length, sum_by}
+use Rattle.std.specs.FinMap.{find, put, is_sorted}
 use Rattle.std.specs.Option.{unwrap_or}
-use Rattle.wse_path.specs.Path.{Path}
+use Rattle.wse_path.specs.Path.{Path, text_of}
 use Rattle.wse_path.specs.Order.{path_cmp}
 
 -- The entries in path order.
 abbrev pub Numbers : Type 0
 Numbers = List (Path × ℕ)
 
--- The entries, and how many more find room without taking memory.
+-- The entries, that their paths rise, and how many more find room without taking memory.
 pub record VersionsState : Type 0 where
   pub entries : Numbers
+  pub rises : is_sorted path_cmp entries ≡ true
   pub spare : ℕ
 
 -- The version of a path: 0 where it has no entry.
@@ -21,3 +22,13 @@ version_of entries p = unwrap_or (find path_cmp p entries) 0
 -- The path's version raised, and all else as it is.
 abbrev pub bumped : Numbers → Path → ℕ → Numbers
 bumped entries p by = put path_cmp p (version_of entries p + by) entries
+
+-- The versions with each of these raised, one after another.
+abbrev pub bumped_by : List (Path × ℕ) → Numbers → Numbers
+bumped_by [] entries = entries
+bumped_by (b ∷ more) entries = bumped_by more (bumped entries b.0 b.1)
+
+-- What the entries count for, or 2^64-1 where that is greater: for each path 32, and the bytes of its text. This project's
+-- own rule.
+abbrev pub known : Numbers → ℕ
+known entries = min (sum_by (λ e. 32 + length (text_of e.0)) entries) (2 ^ 64 - 1)

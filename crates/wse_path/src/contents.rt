@@ -1,7 +1,7 @@
 // Files that are looked up.
 ghost use Rattle.std.specs.Prelude.{◌≡◌, IfOk};
 ghost use Rattle.std.specs.Option.{option_copied};
-ghost use Rattle.wse_path.specs.Tree.{Entries, content, file_above, is_folder, paths_under, IsTree};
+ghost use Rattle.wse_path.specs.Tree.{Entries, content, file_above, fits, is_folder, paths_under, IsTree};
 
 use crate::items::Files;
 use crate::memory::Memory;
@@ -9,14 +9,13 @@ use crate::path::RelPath;
 use crate::tree::Tree;
 use std::alloc::Global;
 
-/// Files that are looked up: a tree, or later a tree with changes over it. Contracts see the files in path order.
+/// Files that are looked up: a tree, or a tree with changes over it. Contracts see the files in path order.
 pub trait Contents {
     ghost files: { Self → Entries };
 
     /// The bytes at the path. Takes no memory.
     fn get(&self, path: &RelPath) -> Option<&[u8]>
-        ensures content { option_copied result ≡ content (files self.now) path.now }
-        ensures tree { IsTree (files self.now) };
+        ensures { option_copied result ≡ content (files self.now) path.now };
 
     /// The file that stands above the path, if there is one. Takes no memory.
     fn file_above(&self, path: &RelPath) -> Option<&RelPath>
@@ -24,16 +23,28 @@ pub trait Contents {
 
     /// Whether some file is under the path. Takes no memory.
     fn is_folder(&self, path: &RelPath) -> bool
-        ensures folder { result ≡ is_folder (files self.now) path.now }
-        ensures tree { IsTree (files self.now) };
+        ensures { result ≡ is_folder (files self.now) path.now };
 
     /// The files under the path, in path order.
     fn under(&self, alloc: Global, path: &RelPath) -> Result<Files, Memory>
         ensures { IfOk result (λ paths. paths ≡ paths_under (files self.now) path.now) };
+
+    /// Whether nothing is at, above or under the path. Takes no memory.
+    #[tactic(auto, using(crate::proofs::TreeLemmas::fits_is))]
+    fn fits(&self, path: &RelPath) -> bool
+        ensures { result ≡ fits (files self.now) path.now }
+    {
+        self.get(path).is_none() && self.file_above(path).is_none() && !self.is_folder(path)
+    }
+
+    // What is shown is a tree.
+    ghost is_tree: { (contents : Self) → IsTree (files contents) };
 }
 
 impl Contents for Tree {
     ghost files = { λ t. t.files };
+
+    ghost is_tree = { λ t. t.is_tree };
 
     fn get(&self, path: &RelPath) -> Option<&[u8]> {
         Tree::get(self, path)

@@ -2,29 +2,41 @@
 #![tactic(auto)]
 
 mod change;
+mod command;
 mod contents;
-mod entries;
+mod difference;
+mod edit;
 mod items;
+mod label;
 mod limits;
+mod lookups;
 mod memory;
+mod merge;
 mod operation;
+mod overlay;
 mod path;
+mod path_map;
 mod position;
+mod row;
 mod text;
 mod tree;
 mod versions;
 
 pub use change::{Bumps, Change, Changes, Numbered};
+pub use command::{Choice, Command, Direction};
 pub use contents::Contents;
+pub use edit::{Edit, Edits, FailureKind, Operation, Operations, What};
 pub use items::{Bytes, Duplicate, Files, Items};
-pub use limits::Limits;
+pub use label::Label;
+pub use limits::{Hit, Limits, Which};
 pub use memory::Memory;
+pub use merge::Update;
 pub use operation::ResourceOp;
+pub use overlay::Overlay;
 pub use path::{PathRefused, RelPath};
+pub use path_map::PathMap;
 pub use position::{Encoding, Position, TextEdit};
+pub use row::Weighed;
 pub use text::Text;
 pub use tree::Tree;
 pub use versions::Versions;
-
-#[cfg(test)]
-mod tests;

@@ -35,3 +35,21 @@ impl Limits {
         }
     }
 }
+
+/// One of the limits.
+#[derive(Clone, Copy, PartialEq, Eq)]
+pub enum Which {
+    Files,
+    FileBytes,
+    TreeBytes,
+    Known,
+    Weight,
+    Serial,
+}
+
+/// A limit that would be passed, and the number that would pass it.
+#[derive(Clone, Copy, PartialEq, Eq)]
+pub struct Hit {
+    pub which: Which,
+    pub would_be: u64,
+}

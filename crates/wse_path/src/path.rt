@@ -137,6 +137,14 @@ impl RelPath {
         self.segments.get(index).map(String::as_str)
     }
 
+    /// How many bytes the text has: at most 4,096.
+    pub fn text_len(&self) -> usize
+        ensures len { result ≡ length (text_of self.now) }
+        ensures short { result ≤ 4096 }
+    {
+        text_bytes(&self.segments)
+    }
+
     /// The segments, joined by `/`.
     pub fn text(&self, alloc: Global) -> Result<Text, Memory>
         ensures { IfOk result (λ text. text ≡ text_of self.now) }
@@ -232,6 +240,3 @@ impl Hash for RelPath {
         self.segments.hash(state);
     }
 }
-
-#[cfg(test)]
-mod tests;

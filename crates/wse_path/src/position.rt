@@ -1,5 +1,8 @@
 // Places in a text, as a client names them, and edits there.
+use crate::items::Duplicate;
+use crate::memory::Memory;
 use crate::text::Text;
+use std::alloc::Global;
 
 /// A place in a text: a line and a character on it, both counted from 0 (LSP 3.17, "Position"). What a character is
 /// the encoding says. LSP's numbers end at 2^31-1; up to 2^64-1 is this project's own reading.
@@ -27,4 +30,15 @@ pub struct TextEdit {
     pub end: Position,
     pub new_text: Text,
     pub skipped: bool,
+}
+
+impl Duplicate for TextEdit {
+    fn duplicate(&self, alloc: Global) -> Result<TextEdit, Memory> {
+        Ok(TextEdit {
+            start: self.start,
+            end: self.end,
+            new_text: self.new_text.duplicate(alloc)?,
+            skipped: self.skipped,
+        })
+    }
 }

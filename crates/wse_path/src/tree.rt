@@ -1,102 +1,96 @@
 // Trees: paths with their bytes, no path under another.
-ghost use Rattle.std.specs.Prelude.{◌≡◌, ◌+◌, ◌<◌, ◌≤◌, [], length, map, IfOk, IfErr, OnOk, OnErr, slice_get};
+ghost use Rattle.std.specs.Prelude.{◌≡◌, ◌+◌, ◌<◌, ◌≤◌, [], true, length, map, IfOk, OnOk, OnErr, slice_get};
+ghost use Rattle.std.specs.FinMap.{is_sorted};
 ghost use Rattle.std.specs.Option.{option_copied};
 ghost use Rattle.wse_path.specs.Order.{path_cmp};
-ghost use Rattle.wse_path.specs.Place.{HasKeyAt, IsGapAt};
-ghost use Rattle.wse_path.specs.Tree.{content, is_present, put_file, remove_file, fits, is_folder, entries_behind, paths_under, file_above, HasRoom, IsTree};
+ghost use Rattle.wse_path.specs.Tree.{content, is_present, put_file, remove_file, set_file, set_files, fits, is_folder, entries_behind, paths_under, file_above, total_bytes, HasRoom, IsTree};
 
-use crate::entries::{duplicate_entries, insert_within, search};
 use crate::items::{Bytes, Duplicate, Files};
 use crate::memory::Memory;
 use crate::path::RelPath;
+use crate::path_map::PathMap;
 use std::alloc::Global;
 use std::marker::Model;
 
-/// A finite map from paths to bytes in which no path is under another. Contracts see its files in path order, and how
-/// many more find room without taking memory.
-#[derive(Debug, Drop)]
+/// A finite map from paths to bytes in which no path is under another. Contracts see its files in path order, that they
+/// are a tree, and how many more find room without taking memory.
 pub struct Tree {
-    entries: Vec<(RelPath, Bytes)>,
+    map: PathMap<Bytes>,
+    ghost is_tree: { IsTree map.entries },
+}
+
+// Written out, so that who drops one takes a single step.
+impl Drop for Tree {
+    fn drop(self) {
+        let Tree { map } = self;
+        drop(map);
+    }
 }
 
 impl Model for Tree {
-    ghost use Rattle.std.specs.Prelude.{◌-◌, vec_len};
-    ghost use Rattle.std.specs.Vec.{vec_capacity};
-    ghost use Rattle.wse_path.specs.Tree.{TreeState, IsTree};
+    ghost use Rattle.wse_path.specs.Tree.{TreeState};
 
     ghost Value = { TreeState };
 
-    ghost view = { λ a. record { files = a.entries.items; spare = vec_capacity a.entries - vec_len a.entries } };
-
-    ghost invariant = { λ a. IsTree a.entries.items };
+    ghost view = { λ a. record { files = a.map.entries; is_tree = a.is_tree; spare = a.map.spare } };
 }
 
 impl Tree {
     /// A tree without files. It takes no memory until a file is put or room is made.
+    #[tactic(auto, using(crate::proofs::TreeLemmas::tree_none))]
     pub fn new(alloc: Global) -> Tree
         ensures { result.files ≡ [] }
     {
         Tree {
-            entries: Vec::new(alloc),
+            map: PathMap::new(alloc),
         }
     }
 
     /// The number of files.
     pub fn count(&self) -> usize
-        ensures count { result ≡ length self.now.files }
-        ensures tree { IsTree self.now.files }
+        ensures { result ≡ length self.now.files }
     {
-        self.entries.len()
+        self.map.len()
+    }
+
+    /// The bytes of all files, or 2^64-1 where they are more. Takes no memory.
+    pub fn bytes(&self) -> u64
+        ensures { result ≡ total_bytes self.now.files }
+    {
+        self.map.sum()
     }
 
     /// The file with that index in path order.
     pub fn path_at(&self, index: usize) -> Option<&RelPath>
         ensures { option_copied result ≡ slice_get (map (λ e. e.0) self.now.files) index }
     {
-        match self.entries.get(index) {
-            Some(entry) => Some(&entry.0),
-            None => None,
-        }
-    }
-
-    // Where the path stands among the entries, or would stand.
-    fn search(&self, path: &RelPath) -> Result<usize, usize>
-        ensures found { IfOk result (λ at. (at < length self.now.files) × HasKeyAt path_cmp self.now.files path.now at) }
-        ensures absent { IfErr result (IsGapAt path_cmp self.now.files path.now) }
-        ensures tree { IsTree self.now.files }
-    {
-        search(&self.entries, path)
+        self.map.path_at(index)
     }
 
     /// The bytes at the path. Takes no memory.
     pub fn get(&self, path: &RelPath) -> Option<&[u8]>
-        ensures content { option_copied result ≡ content self.now.files path.now }
-        ensures tree { IsTree self.now.files }
+        ensures { option_copied result ≡ content self.now.files path.now }
     {
-        match self.search(path) {
-            Ok(at) => {
-                let entry = &self.entries[at];
-                Some(entry.1.as_slice())
-            }
-            Err(_) => None,
+        match self.map.get(path) {
+            Some(bytes) => Some(bytes.as_slice()),
+            None => None,
         }
     }
 
     // The entries that come behind the path.
-    fn behind(&self, path: &RelPath) -> &[(RelPath, Bytes)]
-        ensures entries { result.now ≡ entries_behind self.now.files path.now }
-        ensures tree { IsTree self.now.files }
+    pub(crate) fn behind(&self, path: &RelPath) -> &[(RelPath, Bytes)]
+        ensures { result.now ≡ entries_behind self.now.files path.now }
     {
-        match self.search(path) {
-            Ok(at) => &self.entries[at + 1..],
-            Err(at) => &self.entries[at..],
+        let entries = self.map.as_slice();
+        match self.map.search(path) {
+            Ok(at) => &entries[at + 1..],
+            Err(at) => &entries[at..],
         }
     }
 
     /// Whether some file is under the path. Takes no memory.
     pub fn is_folder(&self, path: &RelPath) -> bool
-        ensures folder { result ≡ is_folder self.now.files path.now }
-        ensures tree { IsTree self.now.files }
+        ensures { result ≡ is_folder self.now.files path.now }
     {
         // All that is under a path comes right behind it.
         match self.behind(path).first() {
@@ -123,13 +117,14 @@ impl Tree {
     pub fn file_above(&self, path: &RelPath) -> Option<&RelPath>
         ensures { option_copied result ≡ file_above self.now.files path.now }
     {
-        match self.search(path) {
+        let entries = self.map.as_slice();
+        match self.map.search(path) {
             // In a tree no file is above another.
             Ok(_) => None,
             Err(0) => None,
             Err(at) => {
                 // Only the last file before it can be above it: one between the two would be under the other.
-                let before = &self.entries[at - 1].0;
+                let before = &entries[at - 1].0;
                 if path.is_under(before) {
                     Some(before)
                 } else {
@@ -154,16 +149,8 @@ impl Tree {
         ensures memory { OnErr result (self.new.files ≡ self.old.files) }
         ensures kept { OnErr result (self.old.spare ≤ self.new.spare) }
     {
-        match self.search(&path) {
-            Ok(at) => {
-                self.entries[at].1 = bytes;
-                Ok(())
-            }
-            Err(at) => {
-                self.entries.insert(at, (path, bytes))?;
-                Ok(())
-            }
-        }
+        self.map.put(path, bytes)?;
+        Ok(())
     }
 
     /// Makes room for that many more files.
@@ -172,8 +159,7 @@ impl Tree {
         ensures room { OnOk result (extra ≤ self.new.spare) }
         ensures kept { self.old.spare ≤ self.new.spare }
     {
-        self.entries.reserve(extra)?;
-        Ok(())
+        self.map.reserve(extra)
     }
 
     /// Puts the bytes at the path into room that is there. Takes no memory, and one of the room at most.
@@ -183,10 +169,7 @@ impl Tree {
         ensures files { self.new.files ≡ put_file self.old.files path bytes }
         ensures spare { self.old.spare ≤ self.new.spare + 1 }
     {
-        match self.search(&path) {
-            Ok(at) => self.entries[at].1 = bytes,
-            Err(at) => insert_within(&mut self.entries, at, path, bytes),
-        }
+        self.map.put_reserved(path, bytes);
     }
 
     /// Takes the path away, and answers whether it was there. Takes no memory.
@@ -195,12 +178,40 @@ impl Tree {
         ensures was { result ≡ is_present self.old.files path.now }
         ensures spare { self.old.spare ≤ self.new.spare }
     {
-        match self.search(path) {
-            Ok(at) => {
-                let _ = self.entries.remove(at);
-                true
+        self.map.remove(path)
+    }
+
+    // Sets one path, so that nothing but the entries behind it is moved.
+    fn set(&mut self, path: RelPath, bytes: Option<Bytes>)
+        requires tree { IsTree (set_file self.old.files path bytes) }
+        requires room { 0 < self.old.spare }
+        ensures files { self.new.files ≡ set_file self.old.files path bytes }
+        ensures spare { self.old.spare ≤ self.new.spare + 1 }
+    {
+        match bytes {
+            Some(bytes) => self.map.put_reserved(path, bytes),
+            None => {
+                let _ = self.map.remove(&path);
             }
-            Err(_) => false,
+        }
+    }
+
+    /// Sets each path to its bytes, or takes it away where it has none, in room that is there. Takes no memory. However
+    /// many paths there are, it is one pass over the files from the first of them on.
+    pub fn set_all(&mut self, mut contents: Vec<(RelPath, Option<Bytes>)>)
+        requires rises { is_sorted path_cmp contents.items ≡ true }
+        requires tree { IsTree (set_files contents.items self.old.files) }
+        requires room { length contents.items ≤ self.old.spare }
+        ensures files { self.new.files ≡ set_files contents.items self.old.files }
+        ensures spare { self.old.spare ≤ self.new.spare + length contents.items }
+    {
+        if contents.len() != 1 {
+            self.map.update_all(contents);
+            return;
+        }
+        match contents.pop() {
+            Some((path, bytes)) => self.set(path, bytes),
+            None => (),
         }
     }
 
@@ -208,7 +219,7 @@ impl Tree {
     pub fn duplicate(&self, alloc: Global) -> Result<Tree, Memory>
         ensures { IfOk result (λ copy. copy.files ≡ self.now.files) }
     {
-        let entries = duplicate_entries(&self.entries, alloc)?;
-        Ok(Tree { entries })
+        let map = self.map.duplicate(alloc)?;
+        Ok(Tree { map })
     }
 }

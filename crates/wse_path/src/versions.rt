@@ -1,36 +1,36 @@
 // Versions of paths.
-ghost use Rattle.std.specs.Prelude.{◌≡◌, ◌+◌, ◌-◌, ◌^◌, ◌<◌, ◌≤◌, [], length, map, true, IfOk, IfErr, OnOk, slice_get};
+ghost use Rattle.std.specs.Prelude.{◌≡◌, ◌+◌, ◌-◌, ◌^◌, ◌<◌, ◌≤◌, [], true, length, map, All, IfOk, OnOk, slice_get};
 ghost use Rattle.std.specs.FinMap.{is_sorted};
 ghost use Rattle.std.specs.Option.{option_copied};
 ghost use Rattle.wse_path.specs.Order.{path_cmp};
-ghost use Rattle.wse_path.specs.Place.{HasKeyAt, IsGapAt};
-ghost use Rattle.wse_path.specs.Versions.{version_of, bumped};
+ghost use Rattle.wse_path.specs.Versions.{version_of, bumped, bumped_by, known};
 
-use crate::entries::{duplicate_entries, insert_within, search};
 use crate::memory::Memory;
 use crate::path::RelPath;
+use crate::path_map::PathMap;
 use std::alloc::Global;
 use std::marker::Model;
 
-/// A finite map from paths to version numbers. Contracts see its entries in path order, and how many more find room
-/// without taking memory.
-#[derive(Debug, Drop)]
+/// A finite map from paths to version numbers. Contracts see its entries in path order, that their paths rise, and how
+/// many more find room without taking memory.
 pub struct Versions {
-    entries: Vec<(RelPath, u32)>,
+    map: PathMap<u32>,
+}
+
+// Written out, so that who drops one takes a single step.
+impl Drop for Versions {
+    fn drop(self) {
+        let Versions { map } = self;
+        drop(map);
+    }
 }
 
 impl Model for Versions {
-    ghost use Rattle.std.specs.Prelude.{◌≡◌, ◌-◌, true, vec_len};
-    ghost use Rattle.std.specs.FinMap.{is_sorted};
-    ghost use Rattle.std.specs.Vec.{vec_capacity};
-    ghost use Rattle.wse_path.specs.Order.{path_cmp};
     ghost use Rattle.wse_path.specs.Versions.{VersionsState};
 
     ghost Value = { VersionsState };
 
-    ghost view = { λ a. record { entries = a.entries.items; spare = vec_capacity a.entries - vec_len a.entries } };
-
-    ghost invariant = { λ a. is_sorted path_cmp a.entries.items ≡ true };
+    ghost view = { λ a. record { entries = a.map.entries; rises = a.map.rises; spare = a.map.spare } };
 }
 
 impl Versions {
@@ -39,44 +39,37 @@ impl Versions {
         ensures { result.entries ≡ [] }
     {
         Versions {
-            entries: Vec::new(alloc),
+            map: PathMap::new(alloc),
         }
     }
 
     /// The number of paths with an entry.
     pub fn count(&self) -> usize
-        ensures count { result ≡ length self.now.entries }
-        ensures sorted { is_sorted path_cmp self.now.entries ≡ true }
+        ensures { result ≡ length self.now.entries }
     {
-        self.entries.len()
+        self.map.len()
+    }
+
+    /// What the paths with an entry count for: for each 32, and the bytes of its text, or 2^64-1 where that is more.
+    /// Takes no memory.
+    pub fn known(&self) -> u64
+        ensures { result ≡ known self.now.entries }
+    {
+        self.map.sum()
     }
 
     /// The path of the entry with that index in path order.
     pub fn path_at(&self, index: usize) -> Option<&RelPath>
         ensures { option_copied result ≡ slice_get (map (λ e. e.0) self.now.entries) index }
     {
-        match self.entries.get(index) {
-            Some(entry) => Some(&entry.0),
-            None => None,
-        }
-    }
-
-    fn search(&self, path: &RelPath) -> Result<usize, usize>
-        ensures found { IfOk result (λ at. (at < length self.now.entries) × HasKeyAt path_cmp self.now.entries path.now at) }
-        ensures absent { IfErr result (IsGapAt path_cmp self.now.entries path.now) }
-        ensures sorted { is_sorted path_cmp self.now.entries ≡ true }
-    {
-        search(&self.entries, path)
+        self.map.path_at(index)
     }
 
     /// The version of the path: 0 where it has no entry. Takes no memory.
     pub fn get(&self, path: &RelPath) -> u32
         ensures { result ≡ version_of self.now.entries path.now }
     {
-        match self.search(path) {
-            Ok(at) => self.entries[at].1,
-            Err(_) => 0,
-        }
+        self.map.get(path).copied().unwrap_or(0)
     }
 
     /// Makes room for that many more entries.
@@ -85,8 +78,7 @@ impl Versions {
         ensures room { OnOk result (extra ≤ self.new.spare) }
         ensures kept { self.old.spare ≤ self.new.spare }
     {
-        self.entries.reserve(extra)?;
-        Ok(())
+        self.map.reserve(extra)
     }
 
     /// Raises the path's version, which ends at 2^31-1 (LSP 3.17, "integer"). Takes no memory, and one of the room at
@@ -97,9 +89,26 @@ impl Versions {
         ensures entries { self.new.entries ≡ bumped self.old.entries path by }
         ensures spare { self.old.spare ≤ self.new.spare + 1 }
     {
-        match self.search(&path) {
-            Ok(at) => self.entries[at].1 += by,
-            Err(at) => insert_within(&mut self.entries, at, path, by),
+        let number = self.get(&path) + by;
+        self.map.put_reserved(path, number);
+    }
+
+    /// Raises the versions of these paths, in room that is there. Takes no memory. However many paths there are, it is
+    /// one pass over the entries from the first of them on.
+    pub fn bump_all(&mut self, mut bumps: Vec<(RelPath, u32)>)
+        requires rises { is_sorted path_cmp bumps.items ≡ true }
+        requires room { length bumps.items ≤ self.old.spare }
+        requires small { All (λ b. version_of self.old.entries b.0 + b.1 ≤ 2 ^ 31 - 1) bumps.items }
+        ensures entries { self.new.entries ≡ bumped_by bumps.items self.old.entries }
+        ensures spare { self.old.spare ≤ self.new.spare + length bumps.items }
+    {
+        if bumps.len() != 1 {
+            self.map.update_all(bumps);
+            return;
+        }
+        match bumps.pop() {
+            Some((path, by)) => self.bump(path, by),
+            None => (),
         }
     }
 
@@ -107,7 +116,7 @@ impl Versions {
     pub fn duplicate(&self, alloc: Global) -> Result<Versions, Memory>
         ensures { IfOk result (λ copy. copy.entries ≡ self.now.entries) }
     {
-        let entries = duplicate_entries(&self.entries, alloc)?;
-        Ok(Versions { entries })
+        let map = self.map.duplicate(alloc)?;
+        Ok(Versions { map })
     }
 }

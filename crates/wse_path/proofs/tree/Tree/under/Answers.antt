@@ -9,7 +9,7 @@ use Rattle.wse_path.proofs.tree.Tree.under.Goals.{else-loop-entry-test, then-loo
 pub returns : goal.returns
 returns c =
     let all = c.behind-entry-items.result.now in
-    let is = c.behind-entry-items.ensures.entries in
+    let is = c.behind-entry-items.ensures in
     let p = c.args.path.now in
     let i = c.loop-entry.entry-index in
     let rest : paths_under (drop i all) p ≡ [] = elim c.loop-entry-test.branch [
@@ -18,7 +18,7 @@ returns c =
           let e = w.entry-item.result in
           let read = w.entry-item.is ∙ ap (λ es. get_or es i e) is in
           ap (λ es. paths_under (drop i es) p) is
-          ∙ ap (map (λ x. x.0)) (none_from p c.args.self.now.files i e c.behind-entry-items.ensures.tree.rises (subst (λ es. i < length es) is w.loop-entry-test.true) (ap (λ (x : Path × List ℕ). is_under x.0 p) (sym read) ∙ sym w.is_under.ensures ∙ w.if-not-is_under.true))
+          ∙ ap (map (λ x. x.0)) (none_from p c.args.self.now.files i e c.args.self.now.is_tree.rises (subst (λ es. i < length es) is w.loop-entry-test.true) (ap (λ (x : Path × List ℕ). is_under x.0 p) (sym read) ∙ sym w.is_under.ensures ∙ w.if-not-is_under.true))
     ] in
     c.new.ensures ∙ sym (append-nil c.loop-entry.paths.items) ∙ ap (λ ps. c.loop-entry.paths.items ++ ps) (sym rest) ∙ sym c.loop-entry.invariant
     ∙ ap (λ es. paths_under es p) is ∙ ap (map (λ e. e.0)) (under_of_behind p c.args.self.now.files)

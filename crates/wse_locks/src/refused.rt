@@ -1,0 +1,28 @@
+// Why locks aren't taken or freed.
+use wse_path::{Files, Memory};
+
+/// Why locks aren't taken.
+#[derive(Debug, Drop)]
+pub enum LockRefused {
+    /// The named paths that another participant holds, each once, in path order.
+    Held { files: Files },
+    /// There was no memory. May come in place of any other answer.
+    Memory,
+}
+
+impl From<Memory> for LockRefused {
+    ghost use Rattle.std.specs.Prelude.{◌≡◌};
+    ghost use Rattle.wse_locks.specs.declared.refused.LockRefused.TheVariants as refused;
+
+    ghost from_gives = { λ _ why. why ≡ refused.Memory };
+
+    fn from(_: Memory) -> LockRefused {
+        LockRefused::Memory
+    }
+}
+
+/// The participant doesn't hold the named path with this index, and holds those named before it.
+#[derive(Debug, Clone, Copy, PartialEq, Eq)]
+pub struct NotHeld {
+    pub index: usize,
+}

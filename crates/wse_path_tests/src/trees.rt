@@ -1,0 +1,115 @@
+use crate::make::{bytes, has_paths, holds, path, put, tree};
+use std::alloc::Global;
+use std::test::Fail;
+use wse_path::{Contents, Memory, RelPath, Tree};
+
+fn fits(alloc: Global, tree: &Tree, text: &str) -> Result<bool, Fail> {
+    Ok(tree.fits(&path(alloc, text)?))
+}
+
+fn is_folder(alloc: Global, tree: &Tree, text: &str) -> Result<bool, Fail> {
+    Ok(tree.is_folder(&path(alloc, text)?))
+}
+
+fn is_above(alloc: Global, tree: &Tree, text: &str, above: &str) -> Result<bool, Fail> {
+    Ok(tree.file_above(&path(alloc, text)?) == Some(&path(alloc, above)?))
+}
+
+#[test]
+fn a_tree_holds_what_is_put(rt: HostRuntime) -> Result<(), Fail> {
+    let alloc = rt.alloc();
+    let made = tree(alloc, "d/y d/x a")?;
+    assert!(rt; has_paths(alloc, &made, "a d/x d/y")?);
+    assert!(rt; holds(alloc, &made, "d/x", "d/x")?);
+    assert!(rt; is_folder(alloc, &made, "d")?);
+    assert!(rt; is_above(alloc, &made, "a/b/c", "a")?);
+    Ok(())
+}
+
+#[test]
+fn no_path_of_a_tree_is_under_another(rt: HostRuntime) -> Result<(), Fail> {
+    let alloc = rt.alloc();
+    let made = tree(alloc, "d/y d/x a")?;
+    assert!(rt; !fits(alloc, &made, "a/b")?);
+    assert!(rt; !fits(alloc, &made, "d")?);
+    Ok(())
+}
+
+fn loses(alloc: Global, tree: &mut Tree, text: &str) -> Result<bool, Fail> {
+    let file = path(alloc, text)?;
+    Ok(tree.remove(&file) && tree.get(&file).is_none())
+}
+
+// Puts an empty file into room that was made for it.
+fn put_in_room(alloc: Global, tree: &mut Tree, text: &str) -> Result<bool, Fail> {
+    let file = path(alloc, text)?;
+    tree.reserve(1)?;
+    if !tree.fits(&file) {
+        return Ok(false);
+    }
+    tree.put_reserved(file, bytes(alloc, "")?);
+    Ok(true)
+}
+
+#[test]
+fn files_come_and_go(rt: HostRuntime) -> Result<(), Fail> {
+    let alloc = rt.alloc();
+    let mut made = tree(alloc, "d/y d/x a")?;
+    assert!(rt; loses(alloc, &mut made, "d/x")?);
+    assert!(rt; put_in_room(alloc, &mut made, "z")?);
+    assert!(rt; has_paths(alloc, &made, "a d/y z")?);
+    Ok(())
+}
+
+// Whether the tree has so many bytes after that file is put.
+fn has_bytes_with(
+    alloc: Global,
+    tree: &mut Tree,
+    text: &str,
+    content: &str,
+    bytes: u64,
+) -> Result<bool, Fail> {
+    Ok(put(alloc, tree, text, content)? && tree.bytes() == bytes)
+}
+
+fn has_bytes_without(alloc: Global, tree: &mut Tree, text: &str, bytes: u64) -> Result<bool, Fail> {
+    Ok(loses(alloc, tree, text)? && tree.bytes() == bytes)
+}
+
+#[test]
+fn the_bytes_of_a_tree_are_those_of_its_files(rt: HostRuntime) -> Result<(), Fail> {
+    let alloc = rt.alloc();
+    let mut made = tree(alloc, "d/x a")?;
+    assert!(rt; made.bytes() == 4);
+    assert!(rt; has_bytes_with(alloc, &mut made, "d/x", "1234567", 8)?);
+    assert!(rt; has_bytes_with(alloc, &mut made, "d/x", "1", 2)?);
+    assert!(rt; has_bytes_without(alloc, &mut made, "a", 1)?);
+    Ok(())
+}
+
+// How many files are under the path.
+fn count_under<C: Contents>(files: &C, alloc: Global, path: &RelPath) -> Result<usize, Memory> {
+    Ok(files.under(alloc, path)?.len())
+}
+
+fn has_under(alloc: Global, tree: &Tree, text: &str, count: usize) -> Result<bool, Fail> {
+    let folder = path(alloc, text)?;
+    Ok(count_under(tree, alloc, &folder)? == count && tree.is_folder(&folder) == (count > 0))
+}
+
+fn has_first_under(alloc: Global, tree: &Tree, text: &str, first: &str) -> Result<bool, Fail> {
+    let under = tree.under(alloc, &path(alloc, text)?)?;
+    Ok(under.as_slice().first() == Some(&path(alloc, first)?))
+}
+
+// By their texts a.b comes before a/b, and in path order behind it.
+#[test]
+fn what_is_under_a_path_comes_right_behind_it(rt: HostRuntime) -> Result<(), Fail> {
+    let alloc = rt.alloc();
+    let made = tree(alloc, "a.b a/b")?;
+    assert!(rt; has_paths(alloc, &made, "a/b a.b")?);
+    assert!(rt; has_under(alloc, &made, "a", 1)?);
+    assert!(rt; has_under(alloc, &made, "a.b", 0)?);
+    assert!(rt; has_first_under(alloc, &made, "a", "a/b")?);
+    Ok(())
+}
