@@ -1,5 +1,5 @@
 -- What a disk that tells tells, and what its calls do to that.
-use Rattle.std.specs.Prelude.{◌≡◌, Bool, true, false, List, [], ℕ, Result, MatchResult, Option, Some, None}
+use Rattle.std.specs.Prelude.{◌≡◌, ◌⊎◌, Bool, true, false, List, [], ℕ, Result, MatchResult, Option, Some, None}
 use Rattle.wse_disk.specs.Reading.{Reading, Write, written, DiffersAt}
 
 -- What a disk tells: what is read, and whether a write came since the last sync that succeeded.
@@ -19,9 +19,10 @@ bytes_or_none None = []
 abbrev pub wrote : Write → Standing → Standing
 wrote w s = record { reading = written w s.reading; pending = true }
 
--- After a write that failed: it changed at most what it names.
-abbrev pub FailedWrite : Write → Standing → Standing → Type 0
-FailedWrite w old new = DiffersAt w old.reading new.reading
+-- After a write that failed: it changed at most what it names, and is pending as a write that was done; or it found no memory and left no trace.
+pub record FailedWrite (w : Write) (old new : Standing) : Type 0 where
+  pub reading : DiffersAt w old.reading new.reading
+  pub pending : (new ≡ old) ⊎ (new.pending ≡ true)
 
 -- On Ok the write was done whole.
 abbrev pub Wrote : {T E : Type 0} → Write → Standing → Standing → Result T E → Type 0

@@ -1,13 +1,16 @@
 // A disk in memory.
 ghost use Rattle.std.specs.Prelude.{◌≡◌, ◌↔◌, ◌≤◌, [], map, length, option_map, is_some, is_err, IsErr, IsErrOf, IsTrue, IfOk, OnOk, OnErr, true, false, not, ◌&&◌, ◌||◌};
 ghost use Rattle.wse_path.specs.Causes.{HasCause};
-ghost use Rattle.wse_path.specs.Tree.{content, put_file, remove_file, HasRoom, IsTree};
+ghost use Rattle.wse_path.specs.Tree.{content, fits, put_file, remove_file, HasRoom, IsTree};
 ghost use Rattle.wse_disk.specs.Causes.{HasReadCause};
 ghost use Rattle.wse_disk.specs.Calls.{bytes_or_none};
-ghost use Rattle.wse_disk.specs.MemState.{IsUncalled, next_call_fails, is_starved, CountsOnly, CountsWrite};
+ghost use Rattle.wse_disk.specs.CallCounts.{uncalled, next_fails, is_starved};
+ghost use Rattle.wse_disk.specs.MemState.{CountsOnly, CountsWrite};
 
-use crate::copies::{paths_of, put_copy};
+use crate::copies::paths_of;
+use crate::counts::CallCounts;
 use crate::disk::{Disk, Failed, Place, ReadErr};
+use crate::lazy::LazyTree;
 use std::alloc::Global;
 use std::marker::Model;
 use wse_path::{Memory, RelPath, Tree};
@@ -15,17 +18,12 @@ use wse_path::{Memory, RelPath, Tree};
 /// A disk in memory, which tells what it holds. Each call of `Disk` and `Place` but `moment` is counted, and fails where
 /// its number is in a list. Its moment counts the stores, erases and syncs, but for those that found no memory.
 /// Contracts see what it holds, the list and the counts.
-#[derive(Debug, Drop)]
+#[derive(Drop)]
 pub struct MemDisk {
-    alloc: Global,
-    tree: Tree,
+    files: LazyTree,
     pending: bool,
-    fails: Vec<u64>,
-    calls: u64,
-    faults: u64,
-    starved: u64,
+    counts: CallCounts,
     moment: u64,
-    ghost is_tree: { IsTree tree.files },
 }
 
 impl Model for MemDisk {
@@ -34,13 +32,10 @@ impl Model for MemDisk {
     ghost Value = { MemState };
 
     ghost view = { λ a. record {
-      files = a.tree.files;
-      is_tree = a.is_tree;
+      files = a.files.files;
+      is_tree = a.files.is_tree;
       pending = a.pending;
-      fails = a.fails.items;
-      calls = a.calls;
-      faults = a.faults;
-      starved = a.starved;
+      counts = a.counts;
       moment = a.moment;
     } };
 }
@@ -50,17 +45,14 @@ impl MemDisk {
     /// memory.
     pub fn new(alloc: Global, tree: Tree, fails: Vec<u64>) -> MemDisk
         ensures files { result.files ≡ tree.files }
-        ensures fails { result.fails ≡ fails.items }
-        ensures uncalled { IsUncalled result }
+        ensures counts { result.counts ≡ uncalled fails.items }
+        ensures moment { result.moment ≡ 0 }
+        ensures pending { result.pending ≡ false }
     {
         MemDisk {
-            alloc,
-            tree,
+            files: LazyTree::new(alloc, tree),
             pending: false,
-            fails,
-            calls: 0,
-            faults: 0,
-            starved: 0,
+            counts: CallCounts::new(fails),
             moment: 0,
         }
     }
@@ -68,31 +60,41 @@ impl MemDisk {
     /// A disk that holds the tree, and whose calls fail for want of memory alone.
     pub fn never_failing(alloc: Global, tree: Tree) -> MemDisk
         ensures files { result.files ≡ tree.files }
-        ensures fails { result.fails ≡ [] }
-        ensures uncalled { IsUncalled result }
+        ensures counts { result.counts ≡ uncalled [] }
+        ensures moment { result.moment ≡ 0 }
+        ensures pending { result.pending ≡ false }
     {
         MemDisk::new(alloc, tree, Vec::new(alloc))
     }
 
-    /// What the disk holds.
-    pub fn tree(&self) -> &Tree
-        ensures { result.now.files ≡ self.now.files }
+    /// What the disk holds. Takes no memory.
+    pub fn into_tree(self) -> Tree
+        ensures { result.files ≡ self.files }
     {
-        &self.tree
+        self.files.into_tree()
+    }
+
+    /// Whether nothing is at, above or under the path. Takes no memory.
+    pub fn fits(&mut self, path: &RelPath) -> bool
+        ensures fits { result ≡ fits self.old.files path.now }
+        ensures same { self.new.files ≡ self.old.files }
+    {
+        self.files.settle();
+        self.files.tree().fits(path)
     }
 
     /// How many calls answered `Failed`, stores that found no memory among them. It stops at 2^64-1.
     pub fn faults(&self) -> u64
-        ensures { result ≡ self.now.faults }
+        ensures { result ≡ self.now.counts.faults }
     {
-        self.faults
+        self.counts.faults()
     }
 
     /// How many stores found no memory. It stops at 2^64-1.
     pub fn starved(&self) -> u64
-        ensures { result ≡ self.now.starved }
+        ensures { result ≡ self.now.counts.starved }
     {
-        self.starved
+        self.counts.starved()
     }
 
     /// Whether a write came since the last sync that succeeded.
@@ -104,16 +106,14 @@ impl MemDisk {
 
     // Counts a call, which fails where its number is in the list.
     fn begin(&mut self) -> Result<(), Failed>
-        ensures cause { HasCause self.old.faults self.new.faults result }
-        ensures failed { IsErr result ↔ IsTrue (next_call_fails self.old) }
+        ensures cause { HasCause self.old.counts.faults self.new.counts.faults result }
+        ensures failed { IsErr result ↔ IsTrue (next_fails self.old.counts) }
         ensures counts { CountsOnly self.old self.new }
     {
-        self.calls = self.calls.saturating_add(1);
-        if !self.fails.contains(&self.calls) {
-            return Ok(());
+        if self.counts.call() {
+            return Err(Failed);
         }
-        self.faults = self.faults.saturating_add(1);
-        Err(Failed)
+        Ok(())
     }
 
     // Counts a write that needs no memory, and its moment.
@@ -121,9 +121,9 @@ impl MemDisk {
         ensures same { self.new.files ≡ self.old.files }
         ensures pending { self.new.pending ≡ self.old.pending }
         ensures later { self.old.moment ≤ self.new.moment }
-        ensures cause { HasCause self.old.faults self.new.faults result }
-        ensures failed { IsErr result ↔ IsTrue (next_call_fails self.old) }
-        ensures counts { CountsWrite self.old self.new (next_call_fails self.old) false }
+        ensures cause { HasCause self.old.counts.faults self.new.counts.faults result }
+        ensures failed { IsErr result ↔ IsTrue (next_fails self.old.counts) }
+        ensures counts { CountsWrite self.old self.new false }
     {
         let begun = self.begin();
         self.moment = self.moment.saturating_add(1);
@@ -138,7 +138,7 @@ impl Disk for MemDisk {
 
     ghost moment_of = { λ d. d.moment };
 
-    ghost faults = { λ d. d.faults };
+    ghost faults = { λ d. d.counts.faults };
 
     ghost reads_a_tree = { λ d t. d.is_tree };
 
@@ -150,23 +150,25 @@ impl Disk for MemDisk {
     fn names(&mut self, alloc: Global, into: &mut Vec<RelPath>) -> Result<(), ReadErr>
         ensures told { OnOk result (into.new.items ≡ map (λ e. e.0) self.old.files) }
         ensures kept { OnErr result (into.new.items ≡ into.old.items) }
-        ensures cause { HasReadCause self.old.faults self.new.faults result }
-        ensures failed { IsErrOf result ReadErr.Failed ↔ IsTrue (next_call_fails self.old) }
+        ensures cause { HasReadCause self.old.counts.faults self.new.counts.faults result }
+        ensures failed { IsErrOf result ReadErr.Failed ↔ IsTrue (next_fails self.old.counts) }
         ensures counts { CountsOnly self.old self.new }
     {
         self.begin()?;
-        *into = paths_of(alloc, &self.tree)?;
+        self.files.settle();
+        *into = paths_of(alloc, self.files.tree())?;
         Ok(())
     }
 
     fn size(&mut self, path: &RelPath) -> Result<Option<u64>, Failed>
         ensures told { IfOk result (λ size. size ≡ option_map length (content self.old.files path.now)) }
-        ensures cause { HasCause self.old.faults self.new.faults result }
-        ensures failed { IsErr result ↔ IsTrue (next_call_fails self.old) }
+        ensures cause { HasCause self.old.counts.faults self.new.counts.faults result }
+        ensures failed { IsErr result ↔ IsTrue (next_fails self.old.counts) }
         ensures counts { CountsOnly self.old self.new }
     {
         self.begin()?;
-        Ok(self.tree.get(path).map(|bytes| bytes.len() as u64))
+        self.files.settle();
+        Ok(self.files.tree().get(path).map(|bytes| bytes.len() as u64))
     }
 
     /// An error leaves `into` as it was.
@@ -174,12 +176,13 @@ impl Disk for MemDisk {
         ensures found { IfOk result (λ found. found ≡ is_some (content self.old.files path.now)) }
         ensures told { OnOk result (into.new.items ≡ bytes_or_none (content self.old.files path.now)) }
         ensures kept { OnErr result (into.new.items ≡ into.old.items) }
-        ensures cause { HasReadCause self.old.faults self.new.faults result }
-        ensures failed { IsErrOf result ReadErr.Failed ↔ IsTrue (next_call_fails self.old) }
+        ensures cause { HasReadCause self.old.counts.faults self.new.counts.faults result }
+        ensures failed { IsErrOf result ReadErr.Failed ↔ IsTrue (next_fails self.old.counts) }
         ensures counts { CountsOnly self.old self.new }
     {
         self.begin()?;
-        match self.tree.get(path) {
+        self.files.settle();
+        match self.files.tree().get(path) {
             Some(bytes) => {
                 *into = bytes.to_vec(alloc)?;
                 Ok(true)
@@ -196,44 +199,42 @@ impl Disk for MemDisk {
         requires { HasRoom self.old.files path.now }
         ensures stored { OnOk result (self.new.files ≡ put_file self.old.files path.now bytes.now) }
         ensures kept { OnErr result (self.new.files ≡ self.old.files) }
-        ensures pending { self.new.pending ≡ (self.old.pending || not (is_starved self.old result)) }
+        ensures pending { self.new.pending ≡ (self.old.pending || not (is_starved self.old.counts result)) }
         ensures later { self.old.moment ≤ self.new.moment }
-        ensures cause { HasCause self.old.faults self.new.faults result }
-        ensures failed { IsTrue (next_call_fails self.old) → IsErr result }
-        ensures counts { CountsWrite self.old self.new (is_err result) (is_starved self.old result) }
+        ensures cause { HasCause self.old.counts.faults self.new.counts.faults result }
+        ensures failed { IsTrue (next_fails self.old.counts) → IsErr result }
+        ensures counts { CountsWrite self.old self.new (is_starved self.old.counts result) }
     {
         if let Err(failed) = self.begin() {
             self.pending = true;
             self.moment = self.moment.saturating_add(1);
             return Err(failed);
         }
-        match put_copy(self.alloc, &mut self.tree, path, bytes) {
+        match self.files.put(path, bytes) {
             Ok(()) => {
                 self.pending = true;
                 self.moment = self.moment.saturating_add(1);
                 Ok(())
             }
             Err(Memory) => {
-                self.starved = self.starved.saturating_add(1);
-                self.faults = self.faults.saturating_add(1);
+                self.counts.starve();
                 Err(Failed)
             }
         }
     }
 
-    #[tactic(auto, using(wse_path::proofs::TreeLemmas::tree_remove))]
     fn erase(&mut self, path: &RelPath) -> Result<(), Failed>
         ensures erased { OnOk result (self.new.files ≡ remove_file self.old.files path.now) }
         ensures kept { OnErr result (self.new.files ≡ self.old.files) }
         ensures pending { self.new.pending ≡ true }
         ensures later { self.old.moment ≤ self.new.moment }
-        ensures cause { HasCause self.old.faults self.new.faults result }
-        ensures failed { IsErr result ↔ IsTrue (next_call_fails self.old) }
-        ensures counts { CountsWrite self.old self.new (next_call_fails self.old) false }
+        ensures cause { HasCause self.old.counts.faults self.new.counts.faults result }
+        ensures failed { IsErr result ↔ IsTrue (next_fails self.old.counts) }
+        ensures counts { CountsWrite self.old self.new false }
     {
         self.pending = true;
         self.begin_write()?;
-        let _ = self.tree.remove(path);
+        self.files.remove(path);
         Ok(())
     }
 
@@ -241,26 +242,26 @@ impl Disk for MemDisk {
         ensures same { self.new.files ≡ self.old.files }
         ensures pending { self.new.pending ≡ (self.old.pending && is_err result) }
         ensures later { self.old.moment ≤ self.new.moment }
-        ensures cause { HasCause self.old.faults self.new.faults result }
-        ensures failed { IsErr result ↔ IsTrue (next_call_fails self.old) }
-        ensures counts { CountsWrite self.old self.new (next_call_fails self.old) false }
+        ensures cause { HasCause self.old.counts.faults self.new.counts.faults result }
+        ensures failed { IsErr result ↔ IsTrue (next_fails self.old.counts) }
+        ensures counts { CountsWrite self.old self.new false }
     {
-        self.begin_write()?;
-        self.pending = false;
-        Ok(())
+        self.files.settle();
+        let synced = self.begin_write();
+        if synced.is_ok() {
+            self.pending = false;
+        }
+        synced
     }
 }
 
 impl Place for MemDisk {
     /// Its tree stays as it is, whatever the folders.
     fn place(&mut self, _tree: &str, _store: &str) -> Result<(), Failed>
-        ensures cause { HasCause self.old.faults self.new.faults result }
-        ensures failed { IsErr result ↔ IsTrue (next_call_fails self.old) }
+        ensures cause { HasCause self.old.counts.faults self.new.counts.faults result }
+        ensures failed { IsErr result ↔ IsTrue (next_fails self.old.counts) }
         ensures counts { CountsOnly self.old self.new }
     {
         self.begin()
     }
 }
-
-#[cfg(test)]
-mod tests;

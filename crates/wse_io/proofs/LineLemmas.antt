@@ -78,6 +78,12 @@ ends_at bytes end found =
       cut = sym (take-append-drop end bytes) ∙ ap (λ l. take end bytes ++ l) (drop_more bytes end 0 at.0 ∙ ap (λ b. b ∷ drop (end + 1) bytes) here);
     }
 
+pub found_or_none : (bytes : List ℕ) (end : ℕ) → position is_line_end bytes ≡ Some end → NoEnd bytes → ⊥
+unfolding NoEnd
+found_or_none bytes end found none =
+    let at = position-Some is_line_end bytes end 0 found in
+    let same : true ≡ false = sym at.1 ∙ none end 0 at.0 in cc
+
 passes_not : (b : Bool) → not b ≡ true → b ≡ false
 passes_not true h = cc
 passes_not false h = refl

@@ -1,9 +1,9 @@
 -- Pieces that stand in one list of bytes.
-use Rattle.std.proofs.Common.{◌≡◌, ◌≢◌, Bool, true, false, cond, ℕ, zero, suc, Ok, ◌≤◌, List, [], ◌∷◌, ◌++◌, length, take, drop, sum_by, refl, sym, ap, ◌∙◌, arith, length-drop}
+use Rattle.std.proofs.Common.{◌≡◌, ◌≢◌, Bool, true, false, cond, ℕ, zero, suc, Ok, ◌≤◌, List, [], ◌∷◌, ◌++◌, length, map, take, drop, sum_by, refl, sym, ap, ◌∙◌, arith, length-drop}
 use Rattle.std.proofs.lemmas.List.{take-append-drop, take-append-le, drop-append-le, take_all, take_at, length-take-le, nil_from_length}
 use Rattle.std.proofs.lemmas.List.Sums.{sum_by-cons}
 use Rattle.wse_io.specs.Stream.{bytes_of, piece_by}
-use Rattle.wse_io.specs.Mem.{pieces_in}
+use Rattle.wse_io.specs.Mem.{mark_of, pieces_in}
 use Rattle.wse_io.specs.declared.mem.Mark.{Mark}
 
 -- The marks' pieces are all the bytes.
@@ -12,6 +12,15 @@ unfolding pieces_in bytes_of
 pieces_all [] bytes e = sym (nil_from_length bytes (sym e))
 pieces_all (m ∷ marks) bytes e =
     ap (λ l. take m.count bytes ++ l) (pieces_all marks (drop m.count bytes) (omega (arith, e, sum_by-cons (λ (m : Mark). m.count) m marks, length-drop m.count bytes))) ∙ take-append-drop m.count bytes
+
+-- The marks are those of the pieces.
+pub marks_all : (marks : List Mark) (bytes : List ℕ) → sum_by (λ (m : Mark). m.count) marks ≡ length bytes → map mark_of (pieces_in marks bytes) ≡ marks
+unfolding pieces_in
+marks_all [] bytes e = refl
+marks_all (m ∷ marks) bytes e =
+    let whole = sum_by-cons (λ (m : Mark). m.count) m marks in
+    ap (λ n. (record { count = n; moment = m.moment }) ∷ map mark_of (pieces_in marks (drop m.count bytes))) (length-take-le m.count bytes (omega (arith, e, whole)))
+    ∙ ap (λ l. m ∷ l) (marks_all marks (drop m.count bytes) (omega (arith, e, whole, length-drop m.count bytes)))
 
 -- One piece more comes behind them.
 pub pieces_push : (marks : List Mark) (bytes piece : List ℕ) (moment : ℕ) → sum_by (λ (m : Mark). m.count) marks ≡ length bytes

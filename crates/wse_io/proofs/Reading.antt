@@ -1,8 +1,8 @@
 -- What a call of a reader took so far, and what it hands out then.
-use Rattle.std.proofs.Common.{◌≡◌, ◌≢◌, ◌⊎◌, inl, inr, ⊎_elim, ℕ, ◌+◌, ◌-◌, ◌<◌, ◌≤◌, true, false, List, [], ◌∷◌, ◌++◌, length, take, drop, Option, IfSome, Result, Ok, Err, refl, sym, ap, subst, ◌∙◌, append_assoc, arith, length-append, length-drop}
+use Rattle.std.proofs.Common.{◌≡◌, ◌≢◌, ◌⊎◌, inl, inr, ⊎_elim, ℕ, ◌+◌, ◌-◌, ◌<◌, ◌≤◌, true, false, List, [], ◌∷◌, ◌++◌, length, take, drop, position, Option, Some, IfSome, Result, Ok, Err, refl, sym, ap, subst, ◌∙◌, append_assoc, arith, length-append, length-drop}
 use Rattle.std.proofs.lemmas.List.{append-nil}
 use Rattle.wse_io.specs.Stream.{Takes}
-use Rattle.wse_io.specs.Lines.{lines, Cuts}
+use Rattle.wse_io.specs.Lines.{is_line_end, lines, Cuts}
 use Rattle.wse_io.specs.Reader.{Reader, is_over, IsAfter, IsSound, Fills, HandsOut, Given, Repeats, Hands}
 use Rattle.wse_io.specs.declared.lines.Ahead.{Ahead}
 use Rattle.wse_io.specs.declared.lines.Ahead.TheVariants.{Open, Over, Failed}
@@ -11,7 +11,7 @@ use Rattle.wse_io.specs.declared.lines.Line.TheVariants.{Text, End}
 use Rattle.wse_io.specs.declared.lines.LineFault.{LineFault}
 use Rattle.wse_io.specs.declared.lines.LineFault.TheVariants.{Read, InputLimit, Memory}
 use Rattle.wse_io.proofs.StreamLemmas.{takes_none, takes_more}
-use Rattle.wse_io.proofs.LineLemmas.{take-nil, take_split, NoEnd, EndsAt, lines-nil, lines_open, cuts_all, cuts_line, cuts_last}
+use Rattle.wse_io.proofs.LineLemmas.{take-nil, take_split, NoEnd, found_or_none, EndsAt, lines-nil, lines_open, cuts_all, cuts_line, cuts_last}
 
 -- The bytes that were taken in the call are those before the reader as it is now.
 pub record SoFar (left_old left_now : Option (List ℕ)) (old now : Reader) (read : List ℕ) : Type 0 where
@@ -27,6 +27,49 @@ pub record SoFar (left_old left_now : Option (List ℕ)) (old now : Reader) (rea
 abbrev pub turns : Ahead → ℕ → ℕ → ℕ
 turns Open limit taken = limit + 2 - taken
 turns ahead limit taken = 0
+
+-- The count of the source's faults in a call, by what comes next.
+abbrev pub KeptBy : Ahead → List ℕ → ℕ → ℕ → Type 0
+KeptBy Open held before count = count ≡ before
+KeptBy Over held before count = count ≡ before
+KeptBy (Failed Read) held before count = (count ≡ before) ⊎ NoEnd held
+KeptBy (Failed (InputLimit n)) held before count = count ≡ before
+KeptBy (Failed Memory) held before count = count ≡ before
+
+-- It is as at the start of the call, unless a fault was found in it and no line end is held.
+pub record Kept (ahead : Ahead) (held : List ℕ) (before count : ℕ) : Type 0 where
+  pub case : KeptBy ahead held before count
+
+pub kept_same : (ahead : Ahead) (held : List ℕ) (count : ℕ) → Kept ahead held count count
+kept_same Open held count = record { case = refl }
+kept_same Over held count = record { case = refl }
+kept_same (Failed Read) held count = record { case = inl refl }
+kept_same (Failed (InputLimit n)) held count = record { case = refl }
+kept_same (Failed Memory) held count = record { case = refl }
+
+-- After one read more.
+pub kept_more : (ahead : Ahead) (held : List ℕ) (before count : ℕ) → (ahead ≢ Failed Read → count ≡ before) → (ahead ≡ Failed Read → NoEnd held) → Kept ahead held before count
+kept_more Open held before count kept none = record { case = kept (λ e. cc) }
+kept_more Over held before count kept none = record { case = kept (λ e. cc) }
+kept_more (Failed Read) held before count kept none = record { case = inr (none refl) }
+kept_more (Failed (InputLimit n)) held before count kept none = record { case = kept (λ e. cc) }
+kept_more (Failed Memory) held before count kept none = record { case = kept (λ e. cc) }
+
+-- Where a line end is held.
+pub kept_found : (ahead : Ahead) (held : List ℕ) (before count end : ℕ) → position is_line_end held ≡ Some end → Kept ahead held before count → count ≡ before
+kept_found Open held before count end found kept = kept.case
+kept_found Over held before count end found kept = kept.case
+kept_found (Failed Read) held before count end found kept = ⊎_elim (λ same. same) (λ none. absurd (found_or_none held end found none)) kept.case
+kept_found (Failed (InputLimit n)) held before count end found kept = kept.case
+kept_found (Failed Memory) held before count end found kept = kept.case
+
+-- Where what comes next is no fault of the source.
+pub kept_unless : (ahead : Ahead) (held : List ℕ) (before count : ℕ) → ahead ≢ Failed Read → Kept ahead held before count → count ≡ before
+kept_unless Open held before count other kept = kept.case
+kept_unless Over held before count other kept = kept.case
+kept_unless (Failed Read) held before count other kept = absurd (other refl)
+kept_unless (Failed (InputLimit n)) held before count other kept = kept.case
+kept_unless (Failed Memory) held before count other kept = kept.case
 
 held_all : (held : List ℕ) (n : ℕ) → held ++ take n [] ≡ held
 held_all held n = ap (λ l. held ++ l) (take-nil n) ∙ append-nil held

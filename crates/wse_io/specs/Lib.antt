@@ -1,5 +1,4 @@
 pub mod Stream
-pub mod Counts
 pub mod Lines
 pub mod Held
 pub mod Reader

@@ -1,40 +1,24 @@
 -- Sources and sinks in memory.
-use Rattle.std.specs.Prelude.{ℕ, ◌==◌, Bool, List, [], ◌∷◌, take, drop}
-use Rattle.std.specs.List.{list_any}
+use Rattle.std.specs.Prelude.{ℕ, List, [], ◌∷◌, length, take, drop}
+use Rattle.wse_disk.specs.CallCounts.{CallState}
 use Rattle.wse_io.specs.Stream.{Piece}
 use Rattle.wse_io.specs.declared.mem.Mark.{Mark}
 
--- The call with this number is to fail.
-abbrev pub is_listed : List ℕ → ℕ → Bool
-is_listed fails number = list_any (λ n. n == number) fails
-
--- A source in memory as contracts see it.
+-- A source in memory as contracts see it: the bytes left, how many a read gives at most, and the counts of its reads.
 pub record MemSourceState : Type 0 where
-  -- The bytes left.
   pub left : List ℕ
-  -- A read gives that many bytes at most.
   pub chunk : ℕ
-  -- The numbers of the calls that fail, counted from 1.
-  pub fails : List ℕ
-  -- How many calls there were.
-  pub calls : ℕ
-  -- How many of them failed.
-  pub faults : ℕ
+  pub counts : CallState
 
--- A sink in memory as contracts see it.
+-- A sink in memory as contracts see it: what was emitted, how many bytes an emit takes at most, and the counts of its emits.
 pub record MemSinkState : Type 0 where
-  -- What was emitted.
   pub pieces : List Piece
-  -- An emit takes that many bytes at most.
   pub chunk : ℕ
-  -- The numbers of the calls that fail, counted from 1.
-  pub fails : List ℕ
-  -- How many calls there were.
-  pub calls : ℕ
-  -- How many of them failed.
-  pub faults : ℕ
-  -- How many of them failed for want of memory.
-  pub starved : ℕ
+  pub counts : CallState
+
+-- How many bytes a piece has, and its moment.
+abbrev pub mark_of : Piece → Mark
+mark_of piece = record { count = length piece.bytes; moment = piece.moment }
 
 -- The pieces that stand in these bytes, one after another.
 unfoldable pub pieces_in : List Mark → List ℕ → List Piece

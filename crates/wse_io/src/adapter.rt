@@ -2,7 +2,7 @@
 ghost use Rattle.std.specs.Prelude.{◌≡◌, ◌<◌, ◌≤◌, [], length, take, Ok, IfOk, is_ok, if◌then◌else◌};
 ghost use Rattle.std.specs.Io.KnownBytes.{Appends, ReadConsumes};
 ghost use Rattle.wse_path.specs.Causes.{HasCause};
-ghost use Rattle.wse_io.specs.Counts.{raised};
+ghost use Rattle.wse_disk.specs.CallCounts.{one_more};
 
 use crate::sink::{Sink, WriteFailed};
 use crate::source::{ReadFailed, Source};
@@ -34,14 +34,21 @@ impl<R: Read + Drop> ReaderSource<R> {
     {
         ReaderSource { reader, faults: 0 }
     }
+
+    /// How many reads failed. It stops at 2^64-1.
+    pub fn faults(&self) -> u64
+        ensures { result ≡ self.now.faults }
+    {
+        self.faults
+    }
 }
 
 impl<R: Read + Drop> Source for ReaderSource<R> {
-    ghost faults = { λ a. a.faults };
+    ghost faults = { λ source. source.faults };
 
     fn read(&mut self, buf: &mut [u8]) -> Result<usize, ReadFailed>
         ensures bytes { ReadConsumes (R.remaining self.old.inner) (R.remaining self.new.inner) result buf.new }
-        ensures faults { self.new.faults ≡ (if is_ok result then self.old.faults else raised self.old.faults) }
+        ensures faults { self.new.faults ≡ (if is_ok result then self.old.faults else one_more self.old.faults) }
 
         // As each source.
         ensures count { IfOk result (λ n. n ≤ length buf.old) }
@@ -82,14 +89,21 @@ impl<W: Write + Drop> WriterSink<W> {
     {
         WriterSink { writer, faults: 0 }
     }
+
+    /// How many emits failed. It stops at 2^64-1.
+    pub fn faults(&self) -> u64
+        ensures { result ≡ self.now.faults }
+    {
+        self.faults
+    }
 }
 
 impl<W: Write + Drop> Sink for WriterSink<W> {
-    ghost faults = { λ a. a.faults };
+    ghost faults = { λ sink. sink.faults };
 
     fn emit<D: Disk>(&mut self, _disk: &D, bytes: &[u8]) -> Result<usize, WriteFailed>
         ensures bytes { IfOk result (λ n. Appends (W.contents self.old.inner) (W.contents self.new.inner) (take n bytes.now)) }
-        ensures faults { self.new.faults ≡ (if is_ok result then self.old.faults else raised self.old.faults) }
+        ensures faults { self.new.faults ≡ (if is_ok result then self.old.faults else one_more self.old.faults) }
         ensures empty { bytes.now ≡ [] → result ≡ Ok 0 }
 
         // As each sink.

@@ -8,7 +8,7 @@ use wse_path::{Bytes, Items, Memory};
 
 /// Bytes in order. They stand in one vector from `start` on; what stands before that was handed out, and is left behind
 /// when bytes come in. Contracts see the bytes alone.
-#[derive(Debug, Drop)]
+#[derive(Drop)]
 pub struct Held {
     alloc: Global,
     bytes: Vec<u8>,

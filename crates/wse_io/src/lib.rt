@@ -3,15 +3,14 @@
 
 mod adapter;
 mod held;
+pub mod laws;
 mod lines;
 mod mem;
 mod sink;
 mod source;
-#[cfg(test)]
-mod tests;
 
 pub use adapter::{ReaderSource, WriterSink};
 pub use lines::{Line, LineFault, Lines};
-pub use mem::{MemSink, MemSource};
+pub use mem::{Mark, MemSink, MemSource};
 pub use sink::{Sink, WriteFailed, emit_all};
 pub use source::{ReadFailed, Source};

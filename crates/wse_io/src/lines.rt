@@ -1,5 +1,5 @@
 // The lines of what a source gives, up to a limit.
-ghost use Rattle.std.specs.Prelude.{◌≡◌, ◌≢◌, ◌⊎◌, ◌^◌, ◌+◌, ◌<◌, ◌≤◌, ℕ, List, [], false, IfOk, IfSome, OnOk, length, take, drop, vec_len, Ok};
+ghost use Rattle.std.specs.Prelude.{◌≡◌, ◌≢◌, ◌⊎◌, ◌^◌, ◌+◌, ◌<◌, ◌≤◌, ℕ, List, [], false, IfOk, IfSome, OnOk, length, take, drop, vec_len, Ok, Err};
 ghost use Rattle.wse_path.specs.Causes.{Rose, HasCause};
 ghost use Rattle.wse_io.specs.Stream.{Takes, read_by};
 ghost use Rattle.wse_io.specs.Lines.{lines};
@@ -15,7 +15,7 @@ use wse_path::{Bytes, Memory};
 const CHUNK: usize = 65536;
 
 /// What a reader of lines hands out.
-#[derive(Debug, Drop)]
+#[derive(Drop)]
 pub enum Line {
     /// A line, without its `\n`.
     Text(Bytes),
@@ -47,7 +47,7 @@ pub enum Ahead {
 
 /// Reads lines, which end at `\n`. At most one byte more than `max_input` is taken from the source. What was handed out is
 /// not kept.
-#[derive(Debug, Drop)]
+#[derive(Drop)]
 pub struct Lines {
     max_input: u64,
     taken: u64,
@@ -98,6 +98,8 @@ impl Lines {
         ensures settled { self.old.ahead ≢ Ahead.Open → source.new ≡ source.old }
 
         ensures later { S.faults source.old ≤ S.faults source.new }
+        // The count rises only in a call that answers a fault of the source.
+        ensures kept { result ≢ Err LineFault.Read → S.faults source.new ≡ S.faults source.old }
         // A fault of the source is known only where its count rose, in this or an earlier call.
         ensures cause { self.new.ahead ≡ Ahead.Failed LineFault.Read
             → (self.old.ahead ≡ Ahead.Failed LineFault.Read) ⊎ Rose (S.faults source.old) (S.faults source.new) }
@@ -119,7 +121,9 @@ impl Lines {
         requires { self.old.ahead ≡ Ahead.Open }
         ensures fills { (read : List ℕ) × Fills (S.left source.old) (S.left source.new) self.old self.new read }
         ensures later { S.faults source.old ≤ S.faults source.new }
+        ensures kept { self.new.ahead ≢ Ahead.Failed LineFault.Read → S.faults source.new ≡ S.faults source.old }
         ensures cause { self.new.ahead ≡ Ahead.Failed LineFault.Read → Rose (S.faults source.old) (S.faults source.new) }
+        ensures still { self.new.ahead ≡ Ahead.Failed LineFault.Read → self.new.held ≡ self.old.held }
     {
         if make_chunk(&mut self.chunk).is_err() {
             self.held.forget();

@@ -1,27 +1,25 @@
 // A source and a sink in memory, which fail where they are told to.
-ghost use Rattle.std.specs.Prelude.{◌≡◌, ◌<◌, ◌≤◌, ◌&&◌, ℕ, List, [], ◌∷◌, ◌++◌, Some, true, not, min, length, IsErr, IfOk, IfSome, OnOk, OnErr, is_ok, is_err, if◌then◌else◌};
+ghost use Rattle.std.specs.Prelude.{◌≡◌, ◌<◌, ◌≤◌, ◌&&◌, ℕ, List, [], ◌∷◌, ◌++◌, Some, true, not, map, min, length, IsErr, IfOk, IfSome, OnOk, OnErr, is_ok, is_err, if◌then◌else◌};
 ghost use Rattle.wse_path.specs.Causes.{HasCause};
 ghost use Rattle.wse_io.specs.Stream.{Takes, read_by, Adds, piece_by, bytes_of};
-ghost use Rattle.wse_io.specs.Counts.{raised};
-ghost use Rattle.wse_io.specs.Mem.{is_listed};
+ghost use Rattle.wse_disk.specs.CallCounts.{uncalled, next_fails, called, after_call, is_starved};
+ghost use Rattle.wse_io.specs.Mem.{mark_of};
 
 use crate::sink::{Sink, WriteFailed};
 use crate::source::{ReadFailed, Source};
 use std::alloc::Global;
 use std::marker::Model;
-use wse_disk::Disk;
+use wse_disk::{CallCounts, Disk};
 use wse_path::Memory;
 
 /// A source that gives bytes from memory. A read fails exactly where its number, counted from 1, is among those that were
 /// told. Also a read into an empty buffer counts.
-#[derive(Debug, Drop)]
+#[derive(Drop)]
 pub struct MemSource {
     bytes: Vec<u8>,
     at: usize,
     chunk: usize,
-    fails: Vec<u64>,
-    calls: u64,
-    faults: u64,
+    counts: CallCounts,
 }
 
 impl Model for MemSource {
@@ -30,7 +28,7 @@ impl Model for MemSource {
 
     ghost Value = { MemSourceState };
 
-    ghost view = { λ a. record { left = drop a.at a.bytes.items; chunk = a.chunk; fails = a.fails.items; calls = a.calls; faults = a.faults } };
+    ghost view = { λ a. record { left = drop a.at a.bytes.items; chunk = a.chunk; counts = a.counts } };
 
     ghost invariant = { λ a. (1 ≤ a.chunk) × (a.at ≤ length a.bytes.items) };
 }
@@ -41,47 +39,48 @@ impl MemSource {
         requires { 1 ≤ chunk }
         ensures left { result.left ≡ bytes.items }
         ensures chunk { result.chunk ≡ chunk }
-        ensures fails { result.fails ≡ fails.items }
-        ensures counts { (result.calls ≡ 0) × (result.faults ≡ 0) }
+        ensures counts { result.counts ≡ uncalled fails.items }
     {
         MemSource {
             bytes,
             at: 0,
             chunk,
-            fails,
-            calls: 0,
-            faults: 0,
+            counts: CallCounts::new(fails),
         }
     }
 
-    /// How many reads failed.
-    pub fn faults(&self) -> u64
-        ensures { result ≡ self.now.faults }
+    /// The bytes left.
+    pub fn left(&self) -> &[u8]
+        ensures { result.now ≡ self.now.left }
     {
-        self.faults
+        &self.bytes[self.at..]
+    }
+
+    /// How many reads failed. It stops at 2^64-1.
+    pub fn faults(&self) -> u64
+        ensures { result ≡ self.now.counts.faults }
+    {
+        self.counts.faults()
     }
 }
 
 impl Source for MemSource {
-    ghost left = { λ a. Some a.left };
+    ghost left = { λ source. Some source.left };
 
-    ghost faults = { λ a. a.faults };
+    ghost faults = { λ source. source.counts.faults };
 
     fn read(&mut self, buf: &mut [u8]) -> Result<usize, ReadFailed>
-        ensures failed { is_err result ≡ is_listed self.old.fails self.new.calls }
+        ensures failed { is_err result ≡ next_fails self.old.counts }
         ensures amount { IfOk result (λ n. n ≡ min self.old.chunk (min (length buf.old) (length self.old.left))) }
-        ensures calls { self.new.calls ≡ raised self.old.calls }
-        ensures faults { self.new.faults ≡ (if is_ok result then self.old.faults else raised self.old.faults) }
-        ensures same { (self.new.chunk ≡ self.old.chunk) × (self.new.fails ≡ self.old.fails) }
+        ensures counts { self.new.counts ≡ called self.old.counts }
+        ensures same { self.new.chunk ≡ self.old.chunk }
 
         // As each source.
         ensures taken { Takes (Some self.old.left) (Some self.new.left) (read_by result buf.new) }
         ensures ended { IfOk result (λ n. n ≡ 0 → 0 < length buf.old → self.new.left ≡ []) }
-        ensures cause { HasCause self.old.faults self.new.faults result }
+        ensures cause { HasCause self.old.counts.faults self.new.counts.faults result }
     {
-        self.calls = self.calls.saturating_add(1);
-        if self.fails.contains(&self.calls) {
-            self.faults = self.faults.saturating_add(1);
+        if self.counts.call() {
             return Err(ReadFailed);
         }
         let rest = &self.bytes[self.at..];
@@ -92,24 +91,21 @@ impl Source for MemSource {
     }
 }
 
-/// Where a piece stands behind those before it.
-#[derive(Debug, Clone, Copy)]
-struct Mark {
-    count: usize,
-    moment: u64,
+/// How many bytes a piece has, and the moment of the disk that it was shown.
+#[derive(Clone, Copy)]
+pub struct Mark {
+    pub count: usize,
+    pub moment: u64,
 }
 
 /// A sink that keeps its pieces in memory. An emit fails exactly where its number, counted from 1, is among those that were
 /// told, or for want of memory. Also an emit of no bytes counts.
-#[derive(Debug, Drop)]
+#[derive(Drop)]
 pub struct MemSink {
     bytes: Vec<u8>,
     marks: Vec<Mark>,
     chunk: usize,
-    fails: Vec<u64>,
-    calls: u64,
-    faults: u64,
-    starved: u64,
+    counts: CallCounts,
 }
 
 impl Model for MemSink {
@@ -118,7 +114,7 @@ impl Model for MemSink {
 
     ghost Value = { MemSinkState };
 
-    ghost view = { λ a. record { pieces = pieces_in a.marks.items a.bytes.items; chunk = a.chunk; fails = a.fails.items; calls = a.calls; faults = a.faults; starved = a.starved } };
+    ghost view = { λ a. record { pieces = pieces_in a.marks.items a.bytes.items; chunk = a.chunk; counts = a.counts } };
 
     ghost invariant = { λ a. (1 ≤ a.chunk) × (sum_by (λ m. m.count) a.marks.items ≡ length a.bytes.items) };
 }
@@ -129,17 +125,13 @@ impl MemSink {
         requires { 1 ≤ chunk }
         ensures pieces { result.pieces ≡ [] }
         ensures chunk { result.chunk ≡ chunk }
-        ensures fails { result.fails ≡ fails.items }
-        ensures counts { (result.calls ≡ 0) × (result.faults ≡ 0) × (result.starved ≡ 0) }
+        ensures counts { result.counts ≡ uncalled fails.items }
     {
         MemSink {
             bytes: Vec::new(alloc),
             marks: Vec::new(alloc),
             chunk,
-            fails,
-            calls: 0,
-            faults: 0,
-            starved: 0,
+            counts: CallCounts::new(fails),
         }
     }
 
@@ -150,43 +142,46 @@ impl MemSink {
         &self.bytes
     }
 
-    /// How many emits failed.
-    pub fn faults(&self) -> u64
-        ensures { result ≡ self.now.faults }
+    /// How many bytes each piece has, and its moment.
+    pub fn marks(&self) -> &[Mark]
+        ensures { result.now ≡ map mark_of self.now.pieces }
     {
-        self.faults
+        &self.marks
     }
 
-    /// How many emits failed for want of memory.
-    pub fn starved(&self) -> u64
-        ensures { result ≡ self.now.starved }
+    /// How many emits failed. It stops at 2^64-1.
+    pub fn faults(&self) -> u64
+        ensures { result ≡ self.now.counts.faults }
     {
-        self.starved
+        self.counts.faults()
+    }
+
+    /// How many emits failed for want of memory. It stops at 2^64-1.
+    pub fn starved(&self) -> u64
+        ensures { result ≡ self.now.counts.starved }
+    {
+        self.counts.starved()
     }
 }
 
 impl Sink for MemSink {
-    ghost pieces = { λ a. Some a.pieces };
+    ghost pieces = { λ sink. Some sink.pieces };
 
-    ghost faults = { λ a. a.faults };
+    ghost faults = { λ sink. sink.counts.faults };
 
     fn emit<D: Disk>(&mut self, disk: &D, bytes: &[u8]) -> Result<usize, WriteFailed>
-        ensures listed { is_listed self.old.fails self.new.calls ≡ true → IsErr result }
-        ensures empty { bytes.now ≡ [] → is_err result ≡ is_listed self.old.fails self.new.calls }
+        ensures listed { next_fails self.old.counts ≡ true → IsErr result }
+        ensures empty { bytes.now ≡ [] → is_err result ≡ next_fails self.old.counts }
         ensures amount { IfOk result (λ n. n ≡ min self.old.chunk (length bytes.now)) }
-        ensures calls { self.new.calls ≡ raised self.old.calls }
-        ensures faults { self.new.faults ≡ (if is_ok result then self.old.faults else raised self.old.faults) }
-        ensures starved { self.new.starved ≡ (if is_err result && not (is_listed self.old.fails self.new.calls) then raised self.old.starved else self.old.starved) }
-        ensures same { (self.new.chunk ≡ self.old.chunk) × (self.new.fails ≡ self.old.fails) }
+        ensures counts { self.new.counts ≡ after_call self.old.counts (is_starved self.old.counts result) }
+        ensures same { self.new.chunk ≡ self.old.chunk }
 
         // As each sink.
         ensures some { IfOk result (λ n. 0 < length bytes.now → 0 < n) }
         ensures added { Adds (Some self.old.pieces) (Some self.new.pieces) (piece_by result bytes.now (D.moment_of disk.now)) }
-        ensures cause { HasCause self.old.faults self.new.faults result }
+        ensures cause { HasCause self.old.counts.faults self.new.counts.faults result }
     {
-        self.calls = self.calls.saturating_add(1);
-        if self.fails.contains(&self.calls) {
-            self.faults = self.faults.saturating_add(1);
+        if self.counts.call() {
             return Err(WriteFailed);
         }
         let count = self.chunk.min(bytes.len());
@@ -201,8 +196,7 @@ impl Sink for MemSink {
         )
         .is_err()
         {
-            self.faults = self.faults.saturating_add(1);
-            self.starved = self.starved.saturating_add(1);
+            self.counts.starve();
             return Err(WriteFailed);
         }
         Ok(count)

@@ -7,7 +7,7 @@ use Rattle.wse_io.proofs.StreamLemmas.{adds_none, adds_more, adds_then_none, all
 use Rattle.wse_io.proofs.sink.emit_all.Goals as goal
 
 pub loop-at-init : goal.loop-at-init
-loop-at-init g c = record { within = omega arith; faults = omega arith; added = ([], adds_none _ _ refl, all_at-nil _, bytes_of-nil) }
+loop-at-init g c = record { within = omega arith; faults = refl; added = ([], adds_none _ _ refl, all_at-nil _, bytes_of-nil) }
 
 pub returns-in-Err-clause-added : goal.returns-in-Err-clause-added
 returns-in-Err-clause-added g c =
@@ -28,7 +28,7 @@ loop-at-preserved g c =
     let one = one_piece WriteFailed n rest moment in
     record {
       within = omega (arith, c.in-Ok.ensures.count);
-      faults = omega (arith, c.emit.ensures.cause.later);
+      faults = c.in-Ok.ensures.cause.kept ∙ c.loop-at.invariant.faults;
       added = (
         so_far.0 ++ piece,
         adds_more _ _ _ so_far.0 piece so_far.1 c.in-Ok.ensures.added,

@@ -1,8 +1,10 @@
-use Rattle.std.proofs.Common.{[], ◌++◌, ◌∙◌, sym, position, refl, ap, inl, inr, arith}
+use Rattle.std.proofs.Common.{◌≡◌, [], ◌++◌, ◌∙◌, Err, sym, position, refl, ap, inl, inr, arith}
 use Rattle.wse_io.specs.Lines.{is_line_end}
 use Rattle.wse_io.specs.Reader.{Reader}
+use Rattle.wse_io.specs.declared.lines.Ahead.TheVariants.{Failed}
+use Rattle.wse_io.specs.declared.lines.LineFault.TheVariants.{Read}
 use Rattle.wse_io.proofs.LineLemmas.{ends_at, no_end_from}
-use Rattle.wse_io.proofs.Reading.{so_far_none, so_far_more, needed, same_reader, hands_line, hands_last, hands_fault}
+use Rattle.wse_io.proofs.Reading.{so_far_none, so_far_more, kept_same, kept_more, kept_unless, kept_found, needed, same_reader, hands_line, hands_last, hands_fault}
 use Rattle.wse_io.proofs.lines.Lines.next.Goals as goal
 
 pub loop-end-init : goal.loop-end-init
@@ -11,6 +13,7 @@ loop-end-init g c = record {
   ready = λ _. refl;
   settled = λ _. refl;
   later = omega arith;
+  kept = kept_same _ _ _;
   cause = λ failed. inl failed;
 }
 
@@ -25,6 +28,12 @@ returns-in-Some-clause-hands g c =
     let at = ends_at c.line_end.new.self c.in-Some.end (ap (position is_line_end) found.same ∙ sym found.place ∙ c.in-Some.is) in
     (so.0, hands_line _ _ _ _ so.0 now.0 now.1 c.hand_out.new.self c.in-Some.end c.hand_out.result at c.hand_out.ensures)
 
+pub returns-in-Some-clause-kept : goal.returns-in-Some-clause-kept
+returns-in-Some-clause-kept g c = λ other.
+    let found = c.line_end.ensures in
+    let held = ap (λ (r : Reader). r.held) (sym c.self.view_is) in
+    kept_found _ _ _ _ c.in-Some.end (ap (position is_line_end) held ∙ sym found.place ∙ c.in-Some.is) c.loop-end.invariant.kept
+
 -- one read more
 pub loop-end-preserved : goal.loop-end-preserved
 loop-end-preserved g c =
@@ -37,11 +46,13 @@ loop-end-preserved g c =
     let now = same_reader _ _ _ _ parts c.line_end.new.self so.0 c.self.view_is found.same c.self.invariant so.1 in
     let none = no_end_from c.line_end.new.self (ap (position is_line_end) found.same ∙ sym found.place ∙ c.in_default.is) in
     let need = needed _ _ _ _ so.0 now.0 now.1 c.in-Open.is none in
+    let is_open = ap (λ (r : Reader). r.ahead) (sym c.self.view_is) ∙ c.in-Open.is in
     record {
       so_far = (so.0 ++ fills.0, so_far_more _ _ _ _ so.0 now.0 now.1 _ c.fill.new.self fills.0 c.in-Open.is none fills.1);
       ready = λ some. absurd (need.0 some);
       settled = λ known. absurd (need.1 known);
       later = omega (arith, inv.later, c.fill.ensures.later);
+      kept = kept_more _ _ _ _ (λ other. c.fill.ensures.kept other ∙ kept_unless _ _ _ _ (λ failed. let e = sym is_open ∙ failed in cc) inv.kept) (λ failed. rw (c.fill.ensures.still failed) none);
       cause = λ failed. let rose = c.fill.ensures.cause failed in inr (omega (arith, inv.later, rose));
     }
 
@@ -56,6 +67,11 @@ returns-in-Over-clause-hands g c =
     let none = no_end_from c.line_end.new.self (ap (position is_line_end) found.same ∙ sym found.place ∙ c.in_default.is) in
     (so.0, hands_last _ _ _ _ so.0 now.0 now.1 c.last.new.self c.last.result c.in-Over.is none c.last.ensures.none c.last.ensures.some)
 
+pub returns-in-Over-clause-kept : goal.returns-in-Over-clause-kept
+returns-in-Over-clause-kept g c = λ other.
+    let is_over = ap (λ (r : Reader). r.ahead) (sym c.self.view_is) ∙ c.in-Over.is in
+    kept_unless _ _ _ _ (λ failed. let e = sym is_over ∙ failed in cc) c.loop-end.invariant.kept
+
 -- a fault is known
 pub returns-in-Failed-clause-hands : goal.returns-in-Failed-clause-hands
 returns-in-Failed-clause-hands g c =
@@ -66,3 +82,8 @@ returns-in-Failed-clause-hands g c =
     let now = same_reader _ _ _ _ parts c.line_end.new.self so.0 c.self.view_is found.same c.self.invariant so.1 in
     let none = no_end_from c.line_end.new.self (ap (position is_line_end) found.same ∙ sym found.place ∙ c.in_default.is) in
     (so.0, hands_fault _ _ _ _ so.0 now.0 now.1 c.in-Failed.fault c.in-Failed.is none)
+
+pub returns-in-Failed-clause-kept : goal.returns-in-Failed-clause-kept
+returns-in-Failed-clause-kept g c = λ other.
+    let is_failed = ap (λ (r : Reader). r.ahead) (sym c.self.view_is) ∙ c.in-Failed.is in
+    kept_unless _ _ _ _ (λ failed. let read : Failed c.in-Failed.fault ≡ Failed Read = sym is_failed ∙ failed in let same : c.in-Failed.fault ≡ Read = cc in other (ap (λ fault. Err fault) same)) c.loop-end.invariant.kept

@@ -3,7 +3,7 @@ use Rattle.wse_path.specs.Causes.{Rose}
 use Rattle.wse_io.specs.Lines.{lines}
 use Rattle.wse_io.specs.declared.lines.Ahead.TheVariants.{Open, Failed}
 use Rattle.wse_io.specs.declared.lines.LineFault.TheVariants.{Read}
-use Rattle.wse_io.proofs.Reading.{SoFar, turns}
+use Rattle.wse_io.proofs.Reading.{SoFar, Kept, turns}
 use Rattle.wse_io.proofs.lines.Lines.next.Given as goal
 
 abbrev pub invariant-loop-end : goal.invariant-loop-end
@@ -12,6 +12,7 @@ invariant-loop-end g l = record {
   ready : lines l.initial.self.held false ≢ [] → l.source ≡ l.initial.source;
   settled : l.initial.self.ahead ≢ Open → l.source ≡ l.initial.source;
   later : g.S.Source.faults l.initial.source ≤ g.S.Source.faults l.source;
+  kept : Kept l.self.ahead l.self.held (g.S.Source.faults l.initial.source) (g.S.Source.faults l.source);
   cause : l.self.ahead ≡ Failed Read → (l.initial.self.ahead ≡ Failed Read) ⊎ Rose (g.S.Source.faults l.initial.source) (g.S.Source.faults l.source);
 }
 

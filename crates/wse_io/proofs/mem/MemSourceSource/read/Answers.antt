@@ -9,7 +9,7 @@ returns-clause-taken c =
     let inside = c.self.inside in
     let n = c.min-count.result in
     let left = drop inside.at inside.bytes.items in
-    let rest : take (length c.deref-2.result.now - inside.at) (drop inside.at c.deref-2.result.now) ≡ left = take_rest c.deref-2.result.now inside.at ∙ ap (drop inside.at) c.deref-2.ensures.value in
+    let rest : take (length c.deref.result.now - inside.at) (drop inside.at c.deref.result.now) ≡ left = take_rest c.deref.result.now inside.at ∙ ap (drop inside.at) c.deref.ensures.value in
     let within : n ≤ length left = omega (arith, c.min-count.ensures, ap length rest) in
     let copied : c.copy_from_slice.new.self ≡ take n left = c.copy_from_slice.ensures.after ∙ ap (take n) rest in (
       drop (inside.at + n) inside.bytes.items,

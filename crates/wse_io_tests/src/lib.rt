@@ -1,0 +1,13 @@
+// Tests of disks, sources and sinks, over their public calls.
+#![tactic(auto)]
+
+#[cfg(test)]
+mod disk;
+#[cfg(test)]
+mod flushing;
+#[cfg(test)]
+mod lines;
+#[cfg(test)]
+mod pieces;
+#[cfg(test)]
+mod reads;
