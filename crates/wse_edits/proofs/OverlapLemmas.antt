@@ -82,7 +82,7 @@ IsQuietBefore-more ranges n within quiet none = λ second low. elim (cases_lt se
   | inr here ↦ ap (said_of ranges) {x = second} {y = n} (omega arith) ∙ said_of-none ranges n within none
 ]
 
-not_said : {Y : Type 0} (b : Bool) (y : Y) → cond b (Some y) None ≡ None → b ≡ false
+pub not_said : {Y : Type 0} (b : Bool) (y : Y) → cond b (Some y) None ≡ None → b ≡ false
 not_said true y h = cc
 not_said false y h = refl
 
@@ -118,7 +118,7 @@ module _ (text : List ℕ) (enc : Encoding) (edits : List TextEdit) where
       ap (λ b. cond b (Some (Overlap i j)) None) (same_pair i j nothing (omega arith) within ∙ apart i j nothing (omega arith) within)))
 
 -- A splice's range.
-abbrev span : Splice → TextRange
+abbrev pub span : Splice → TextRange
 span s = record { start = s.start; end = s.end }
 
 -- The splice of an earlier edit fits that of a later one.

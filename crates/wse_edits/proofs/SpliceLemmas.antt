@@ -4,18 +4,20 @@ use Rattle.std.specs.List.{All, AllByRecursion, cons_option, filter_map, flat_ma
 use Rattle.std.specs.List.Sorted.{IsPermutation, IsSortedByKey, IsStableByKey}
 use Rattle.std.specs.Option.{option_map_or, option_to_list}
 use Rattle.std.specs.Ordering.{nat_cmp}
+use Rattle.std.specs.Str.{IsCharBoundary}
 use Rattle.std.proofs.lemmas.List.{append-nil}
-use Rattle.std.proofs.lemmas.List.Elements.{All-from_recursion, recursion_from_All, filter_map-append}
+use Rattle.std.proofs.lemmas.List.Elements.{All-from_recursion, All-weaker, recursion_from_All, filter_map-append}
+use Rattle.std.proofs.lemmas.List.Sorted.{All-permutation}
 use Rattle.wse_path.specs.declared.position.Encoding.{Encoding}
 use Rattle.wse_path.specs.declared.position.TextEdit.{TextEdit}
 use Rattle.wse_splice.specs.declared.splice.Splice.{Splice}
-use Rattle.wse_splice.specs.Splice.{put_in_at, is_replaced as is_spliced, spliced}
+use Rattle.wse_splice.specs.Splice.{LieBetweenCharacters, put_in_at, is_replaced as is_spliced, spliced}
 use Rattle.wse_splice.proofs.OrderLemmas.{spliced_stable}
 use Rattle.wse_splice.proofs.PlaceLemmas.{over, over_parts, rebuilt_same}
 use Rattle.wse_edits.specs.declared.range.TextRange.{TextRange}
 use Rattle.wse_edits.specs.Edited.{put_in, is_replaced, edited, splice_in, splices_of}
-use Rattle.wse_edits.specs.Range.{LiesWithin, live_range, ranges_of}
-use Rattle.wse_edits.proofs.OverlapLemmas.{IsSorting}
+use Rattle.wse_edits.specs.Range.{IsRangeOf, live_range, ranges_of}
+use Rattle.wse_edits.proofs.OverlapLemmas.{IsSorting, span}
 
 -- An edit whose range starts at k puts in its text in front of the later ones.
 put_in_first : (e : TextEdit) (range : Option TextRange) (k : ℕ) (ss : List Splice) (es : List TextEdit) → put_in_at ss k ≡ flat_map (λ (e : TextEdit). e.new_text) es → put_in_at (cons_option (splice_in e range) ss) k ≡ flat_map (λ (e : TextEdit). e.new_text) (cond (option_map_or (λ (r : TextRange). eqb r.start k) range false) (e ∷ es) es)
@@ -48,18 +50,18 @@ module _ (g : TextEdit → Option TextRange) where
   splices-zip [] = refl
   splices-zip (e ∷ es) = ap (cons_option (splice_in e (g e))) (splices-zip es)
 
-  module _ (n : ℕ) where
-    within_first : (e : TextEdit) (range : Option TextRange) (ss : List Splice) → IfSome range (LiesWithin n) → AllByRecursion (λ (s : Splice). (s.start ≤ s.end) × (s.end ≤ n)) ss → AllByRecursion (λ (s : Splice). (s.start ≤ s.end) × (s.end ≤ n)) (cons_option (splice_in e range) ss)
-    within_first e None ss here others = others
-    within_first e (Some r) ss here others = (here, others)
+  module _ (P : TextRange → Type 0) where
+    spans_first : (e : TextEdit) (range : Option TextRange) (ss : List Splice) → IfSome range P → AllByRecursion (λ (s : Splice). P (span s)) ss → AllByRecursion (λ (s : Splice). P (span s)) (cons_option (splice_in e range) ss)
+    spans_first e None ss here others = others
+    spans_first e (Some r) ss here others = (here, others)
 
-    within_recursion : (edits : List TextEdit) → AllByRecursion (λ (range : Option TextRange). IfSome range (LiesWithin n)) (map g edits) → AllByRecursion (λ (s : Splice). (s.start ≤ s.end) × (s.end ≤ n)) (filter_map (λ e. splice_in e (g e)) edits)
-    within_recursion [] all = tt
-    within_recursion (e ∷ es) all = within_first e (g e) (filter_map (λ e. splice_in e (g e)) es) all.0 (within_recursion es all.1)
+    spans_recursion : (edits : List TextEdit) → AllByRecursion (λ (range : Option TextRange). IfSome range P) (map g edits) → AllByRecursion (λ (s : Splice). P (span s)) (filter_map (λ e. splice_in e (g e)) edits)
+    spans_recursion [] all = tt
+    spans_recursion (e ∷ es) all = spans_first e (g e) (filter_map (λ e. splice_in e (g e)) es) all.0 (spans_recursion es all.1)
 
-    -- Where the ranges lie in a text of n bytes, so do the splices.
-    pub within-splices : (edits : List TextEdit) → All (λ (range : Option TextRange). IfSome range (LiesWithin n)) (map g edits) → All (λ (s : Splice). (s.start ≤ s.end) × (s.end ≤ n)) (filter_map (λ e. splice_in e (g e)) edits)
-    within-splices edits all = All-from_recursion _ _ (within_recursion edits (recursion_from_All _ _ all))
+    -- What holds of the ranges holds of the splices' ranges.
+    pub spans-splices : (edits : List TextEdit) → All (λ (range : Option TextRange). IfSome range P) (map g edits) → All (λ (s : Splice). P (span s)) (filter_map (λ e. splice_in e (g e)) edits)
+    spans-splices edits all = All-from_recursion _ _ (spans_recursion edits (recursion_from_All _ _ all))
 
 zip_more : {X Y : Type 0} (xs : List X) (ys : List Y) (i : ℕ) (d : X) (e : Y) → length ys ≡ length xs → i < length xs → zip (take (i + 1) xs) (take (i + 1) ys) ≡ zip (take i xs) (take i ys) ++ (get_or xs i d, get_or ys i e) ∷ []
 zip_more [] ys i d e same low = absurd (omega arith)
@@ -75,16 +77,27 @@ splices-more edits ranges i e range same low is range_is =
     ∙ filter_map-append (λ e. splice_in e.0 e.1) (zip (take i edits) (take i ranges)) ((get_or edits i e, get_or ranges i None) ∷ [])
     ∙ (λ k. filter_map (λ e. splice_in e.0 e.1) (zip (take i edits) (take i ranges)) ++ cons_option (splice_in (sym is k) (range_is k)) [])
 
+-- The edits' splices lie as their ranges do.
+ranges-splices : (text : List ℕ) (enc : Encoding) (edits : List TextEdit) (ranges : List (Option TextRange)) → ranges ≡ ranges_of text enc edits → All (λ (range : Option TextRange). IfSome range (IsRangeOf text)) ranges → All (λ (s : Splice). IsRangeOf text (span s)) (splices_of text enc edits)
+ranges-splices text enc edits ranges ranges_are lie =
+    spans-splices (live_range text enc) (IsRangeOf text) edits (subst (All (λ (range : Option TextRange). IfSome range (IsRangeOf text))) ranges_are lie)
+
 -- What is made of the edits and their ranges and then sorted is a sorting of the edits' splices.
-pub IsSorting-made : (text : List ℕ) (enc : Encoding) (edits : List TextEdit) (slice ranges : List (Option TextRange)) (made ys : List Splice) → slice ≡ ranges → ranges ≡ ranges_of text enc edits → All (λ (range : Option TextRange). IfSome range (LiesWithin (length text))) ranges → made ≡ filter_map (λ e. splice_in e.0 e.1) (zip edits slice) → IsPermutation made ys → IsSortedByKey (λ s. s.start) nat_cmp ys → IsStableByKey (λ s. s.start) nat_cmp made ys → IsSorting (splices_of text enc edits) ys (length text)
+pub IsSorting-made : (text : List ℕ) (enc : Encoding) (edits : List TextEdit) (slice ranges : List (Option TextRange)) (made ys : List Splice) → slice ≡ ranges → ranges ≡ ranges_of text enc edits → All (λ (range : Option TextRange). IfSome range (IsRangeOf text)) ranges → made ≡ filter_map (λ e. splice_in e.0 e.1) (zip edits slice) → IsPermutation made ys → IsSortedByKey (λ s. s.start) nat_cmp ys → IsStableByKey (λ s. s.start) nat_cmp made ys → IsSorting (splices_of text enc edits) ys (length text)
 IsSorting-made text enc edits slice ranges made ys same ranges_are lie made_is permutation sorted stable =
     let splices_are : made ≡ splices_of text enc edits = made_is ∙ ap (λ ranges. filter_map (λ e. splice_in e.0 e.1) (zip edits ranges)) (same ∙ ranges_are) ∙ splices-zip (live_range text enc) edits in
     record {
       permutation = subst (λ xs. IsPermutation xs ys) splices_are permutation;
       sorted = sorted;
       stable = subst (λ xs. IsStableByKey (λ s. s.start) nat_cmp xs ys) splices_are stable;
-      within = within-splices (live_range text enc) (length text) edits (subst (All (λ (range : Option TextRange). IfSome range (LiesWithin (length text)))) ranges_are lie);
+      within = All-weaker (λ (s : Splice). IsRangeOf text (span s)) (λ (s : Splice). (s.start ≤ s.end) × (s.end ≤ length text)) (λ s is. (is.0, is.2.0)) (splices_of text enc edits) (ranges-splices text enc edits ranges ranges_are lie);
     }
+
+-- Sorted they begin and end between two characters.
+pub LieBetweenCharacters-sorted : (text : List ℕ) (enc : Encoding) (edits : List TextEdit) (ranges : List (Option TextRange)) (ys : List Splice) → ranges ≡ ranges_of text enc edits → All (λ (range : Option TextRange). IfSome range (IsRangeOf text)) ranges → IsPermutation (splices_of text enc edits) ys → LieBetweenCharacters text ys
+LieBetweenCharacters-sorted text enc edits ranges ys ranges_are lie same =
+    All-permutation (λ (s : Splice). IsCharBoundary text s.start × IsCharBoundary text s.end) (splices_of text enc edits) ys same
+    (All-weaker (λ (s : Splice). IsRangeOf text (span s)) (λ (s : Splice). IsCharBoundary text s.start × IsCharBoundary text s.end) (λ s is. (is.1, is.2)) (splices_of text enc edits) (ranges-splices text enc edits ranges ranges_are lie))
 
 -- Sorted they make the text after the edits.
 pub spliced-sorted : (text : List ℕ) (enc : Encoding) (edits : List TextEdit) (ys : List Splice) → IsSorting (splices_of text enc edits) ys (length text) → spliced text ys ≡ edited text enc edits

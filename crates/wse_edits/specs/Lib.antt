@@ -1,3 +1,4 @@
 pub mod Range
 pub mod Refusal
 pub mod Edited
+pub mod Fitting

@@ -2,15 +2,20 @@
 -- and that one inside a code point has no range, are this project's own readings.
 use Rattle.std.specs.Prelude.{ℕ, ◌≤◌, List, Option, None, Result, Ok, Err, map, min, max, if◌then◌else◌}
 use Rattle.std.specs.Result.{result_ok}
+use Rattle.std.specs.Str.{IsCharBoundary}
 use Rattle.wse_path.specs.declared.position.Encoding.{Encoding}
 use Rattle.wse_path.specs.declared.position.TextEdit.{TextEdit}
 use Rattle.wse_text.specs.declared.place.Inside.{Inside}
 use Rattle.wse_text.specs.Place.{offset_of}
 use Rattle.wse_edits.specs.declared.range.TextRange.{TextRange}
 
--- The range lies in a text of n bytes.
-abbrev pub LiesWithin : ℕ → TextRange → Type 0
-LiesWithin n r = (r.start ≤ r.end) × (r.end ≤ n)
+-- The range doesn't end in front of its start.
+abbrev pub Rises : TextRange → Type 0
+Rises r = r.start ≤ r.end
+
+-- It begins and ends between two characters of the text.
+abbrev pub IsRangeOf : List ℕ → TextRange → Type 0
+IsRangeOf text r = Rises r × IsCharBoundary text r.start × IsCharBoundary text r.end
 
 -- From the smaller place up to the greater, or the first that lies inside a code point.
 abbrev pub range_between : Result ℕ Inside → Result ℕ Inside → Result TextRange Inside

@@ -2,7 +2,7 @@
 ghost use Rattle.std.specs.Prelude.{◌≡◌, ◌⊎◌, length, zip, filter_map, IfOk, IfErr, OnOk};
 ghost use Rattle.std.specs.List.Sorted.{IsPermutation, IsSortedByKey, IsStableByKey};
 ghost use Rattle.std.specs.Ordering.{nat_cmp};
-ghost use Rattle.wse_splice.specs.Splice.{Fits, spliced};
+ghost use Rattle.wse_splice.specs.Splice.{Fits, LieBetweenCharacters, spliced};
 ghost use Rattle.wse_edits.specs.Edited.{splice_in, splices_of, edited};
 ghost use Rattle.wse_edits.specs.Refusal.{refusal};
 
@@ -16,8 +16,10 @@ use wse_splice::{Splice, Splices};
 /// The edits as splices of the text before them, sorted by start, equal starts in the order of the list. Skipped edits
 /// are passed over. `apply` of the splices is the text after the edits (LSP 3.17, "TextEdit[]").
 ///
-/// It makes one pass over the text, goes along each position's line, and sorts. Only where two edits overlap does it go
-/// through the pairs, to name the first.
+/// It makes two passes over the text, goes along a short piece of each position's line, and sorts. Where two edits
+/// overlap it sorts once more, to name the first pair. So it takes the time of the text and of n log n for n edits.
+///
+/// No range begins or ends inside a character: of a UTF-8 text `apply` leaves UTF-8.
 pub fn resolve(
     alloc: Global,
     text: &str,
@@ -25,6 +27,7 @@ pub fn resolve(
     edits: &[TextEdit],
 ) -> Result<Splices, EditsRefused>
     ensures fits { IfOk result (λ splices. Fits splices (length text.now)) }
+    ensures boundaries { IfOk result (LieBetweenCharacters text.now) }
     ensures text_after { IfOk result (λ splices. spliced text.now splices ≡ edited text.now enc edits.now) }
 
     // They are the edits that aren't skipped, sorted stably.
@@ -39,7 +42,7 @@ pub fn resolve(
     let ranges = ranges_of(alloc, text, enc, edits)?;
     let mut splices = splices_of(alloc, edits, &ranges)?;
     sort_by_start(&mut splices)?;
-    refuse_overlap(&ranges, &splices)?;
+    refuse_overlap(alloc, &ranges, &splices)?;
     Ok(Items::new(splices))
 }
 

@@ -1,26 +1,32 @@
 // Pairs of edits that don't fit.
-ghost use Rattle.std.specs.Prelude.{◌≡◌, ◌≤◌, length, position, IsTrue, IfErr, OnOk};
+ghost use Rattle.std.specs.Prelude.{◌≡◌, ◌≤◌, ◌⊎◌, length, position, All, IsTrue, IfErr, IfOk, IfSome, OnOk};
 ghost use Rattle.std.specs.List.{AllAdjacentBelow};
+ghost use Rattle.wse_edits.specs.Range.{Rises};
 ghost use Rattle.wse_edits.specs.Refusal.{fits_pair, overlaps, overlap_of};
 
+use crate::fitting::fitting;
 use crate::range::TextRange;
 use crate::refused::EditsRefused;
+use std::alloc::Global;
+use wse_path::Memory;
 use wse_splice::Splice;
 
 /// Refuses the first pair of ranges that overlap. `sorted` are the splices of the ranges, sorted by start: only where
-/// neighbours of these overlap are the pairs gone through.
+/// neighbours of these overlap is the pair looked for.
 pub(crate) fn refuse_overlap(
+    alloc: Global,
     ranges: &[Option<TextRange>],
     sorted: &[Splice],
 ) -> Result<(), EditsRefused>
-    requires { AllAdjacentBelow (λ s t. s.end ≤ t.start) sorted.now (length sorted.now) → overlap_of ranges.now ≡ None }
+    requires rise { All (λ range. IfSome range Rises) ranges.now }
+    requires neighbours { AllAdjacentBelow (λ s t. s.end ≤ t.start) sorted.now (length sorted.now) → overlap_of ranges.now ≡ None }
     ensures ok { OnOk result (overlap_of ranges.now ≡ None) }
-    ensures err { IfErr result (λ e. overlap_of ranges.now ≡ Some e) }
+    ensures err { IfErr result (λ e. (e ≡ EditsRefused.Memory) ⊎ (overlap_of ranges.now ≡ Some e)) }
 {
     if follow_one_another(sorted) {
         return Ok(());
     }
-    match first_overlap(ranges) {
+    match first_overlap(alloc, ranges)? {
         Some(overlap) => Err(overlap),
         None => Ok(()),
     }
@@ -32,18 +38,24 @@ fn follow_one_another(splices: &[Splice]) -> bool
     splices.is_sorted_by(|splice, next| splice.end <= next.start)
 }
 
-fn first_overlap(ranges: &[Option<TextRange>]) -> Option<EditsRefused>
-    ensures { result ≡ overlap_of ranges.now }
+fn first_overlap(
+    alloc: Global,
+    ranges: &[Option<TextRange>],
+) -> Result<Option<EditsRefused>, Memory>
+    requires { All (λ range. IfSome range Rises) ranges.now }
+    ensures { IfOk result (λ overlap. overlap ≡ overlap_of ranges.now) }
 {
-    for (second, later) in ranges.iter().enumerate() {
-        if let Some(first) = first_overlapping(&ranges[..second], later) {
-            return Some(EditsRefused::Overlap {
-                first: first as u64,
-                second: second as u64,
-            });
-        }
+    let second = fitting(alloc, ranges)?;
+    if second == ranges.len() {
+        return Ok(None);
     }
-    None
+    match first_overlapping(&ranges[..second], &ranges[second]) {
+        Some(first) => Ok(Some(EditsRefused::Overlap {
+            first: first as u64,
+            second: second as u64,
+        })),
+        None => Ok(None),
+    }
 }
 
 /// The number of the first range that overlaps a later one.

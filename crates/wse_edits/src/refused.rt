@@ -1,5 +1,5 @@
 // Why edits are refused.
-use std::alloc::AllocFailed;
+use std::alloc::{AllocError, AllocFailed};
 use wse_path::Memory;
 
 /// Why edits of a text can't be made. Edits are numbered as the list is, from 0, skipped ones too.
@@ -21,6 +21,17 @@ impl From<Memory> for EditsRefused {
     ghost from_gives = { λ _ why. why ≡ Memory };
 
     fn from(_: Memory) -> EditsRefused {
+        EditsRefused::Memory
+    }
+}
+
+impl From<AllocError> for EditsRefused {
+    ghost use Rattle.std.specs.Prelude.{◌≡◌};
+    ghost use Rattle.wse_edits.specs.declared.refused.EditsRefused.TheVariants.{Memory};
+
+    ghost from_gives = { λ _ why. why ≡ Memory };
+
+    fn from(_: AllocError) -> EditsRefused {
         EditsRefused::Memory
     }
 }

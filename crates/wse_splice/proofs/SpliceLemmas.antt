@@ -120,11 +120,10 @@ pub IsMadeUpTo-step : (old : List ℕ) (all : List Splice) (done i : ℕ) (s : S
 IsMadeUpTo-step old all done i s made up low is =
     IsMadeUpTo-more old all done s (drop (i + 1) all) made (subst (λ left. IsMadeUpTo old all done left made) (left_first all i s low is) up)
 
-pub IsMadeUpTo-bounds : (old : List ℕ) (all : List Splice) (done i : ℕ) (s : Splice) (made : List ℕ) → IsMadeUpTo old all done (drop i all) made → i < length all → s ≡ get_or all i s → (done ≤ s.start) × (s.start ≤ length old)
+pub IsMadeUpTo-bounds : (old : List ℕ) (all : List Splice) (done i : ℕ) (s : Splice) (made : List ℕ) → IsMadeUpTo old all done (drop i all) made → i < length all → s ≡ get_or all i s → (done ≤ s.start) × (s.start ≤ s.end) × (s.end ≤ length old)
 IsMadeUpTo-bounds old all done i s made up low is =
     let fits : FitsFrom done (s ∷ drop (i + 1) all) (length old) = subst (λ left. FitsFrom done left (length old)) (left_first all i s low is) up.fits in
-    let end = FitsFrom-within s.end (drop (i + 1) all) (length old) fits.2 in
-    (fits.0, omega arith)
+    (fits.0, fits.1, FitsFrom-within s.end (drop (i + 1) all) (length old) fits.2)
 
 pub IsMadeUpTo-end : (old : List ℕ) (all : List Splice) (done i : ℕ) (made : List ℕ) → IsMadeUpTo old all done (drop i all) made → length all ≤ i → made ++ take (length old - done) (drop done old) ≡ spliced old all
 IsMadeUpTo-end old all done i made up none_left =

@@ -3,12 +3,17 @@
 use Rattle.std.specs.Prelude.{ℕ, ◌+◌, ◌≤◌, ◌==◌, ◌&&◌, Bool, List, [], ◌++◌, length, filter, nat_le, nat_lt, if◌then◌else◌, slice_get, All}
 use Rattle.std.specs.List.{AllAdjacentBelow, flat_map, list_any, range_with_len}
 use Rattle.std.specs.Option.{option_to_list}
+use Rattle.std.specs.Str.{IsCharBoundary}
 use Rattle.wse_splice.specs.declared.splice.Splice.{Splice}
 
 -- Each range lies in a text of n bytes, and none ends behind the start of the next.
 pub record Fits (splices : List Splice) (n : ℕ) : Type 0 where
   pub within : All (λ s. (s.start ≤ s.end) × (s.end ≤ n)) splices
   pub ordered : AllAdjacentBelow (λ s t. s.end ≤ t.start) splices (length splices)
+
+-- Each range begins and ends between two characters of the text.
+abbrev pub LieBetweenCharacters : List ℕ → List Splice → Type 0
+LieBetweenCharacters old splices = All (λ s. IsCharBoundary old s.start × IsCharBoundary old s.end) splices
 
 -- At each place of the old text, the end among them, what is put in there, and behind it the old byte unless it goes.
 abbrev pub rebuilt : List ℕ → (ℕ → List ℕ) → (ℕ → Bool) → List ℕ

@@ -1,13 +1,14 @@
 // Ranges of a text and what stands in their place.
 ghost use Rattle.std.specs.Prelude.{◌≡◌, length, IfOk};
-ghost use Rattle.wse_splice.specs.Splice.{Fits, spliced};
+ghost use Rattle.std.specs.Str.{IsUtf8};
+ghost use Rattle.wse_splice.specs.Splice.{Fits, LieBetweenCharacters, spliced};
 
 use std::alloc::Global;
 use wse_path::{Bytes, Items, Memory, Text};
 
 /// A text in place of the bytes from `start` up to `end`, both counted from the start of the old text. Where they are
 /// equal it is an insert.
-#[derive(Debug, Drop)]
+#[derive(Drop)]
 pub struct Splice {
     pub start: usize,
     pub end: usize,
@@ -21,7 +22,10 @@ pub type Splices = Items<Splice>;
 /// list. It takes the time of the text before and of the texts put in.
 pub fn apply(alloc: Global, text: &[u8], splices: &[Splice]) -> Result<Bytes, Memory>
     requires { Fits splices.now (length text.now) }
-    ensures { IfOk result (λ after. after ≡ spliced text.now splices.now) }
+    ensures value { IfOk result (λ after. after ≡ spliced text.now splices.now) }
+
+    // Of a UTF-8 text they leave UTF-8, if no range begins or ends inside a character.
+    ensures utf8 { IsUtf8 text.now → LieBetweenCharacters text.now splices.now → IfOk result IsUtf8 }
 {
     let mut after = Vec::new(alloc);
     let mut done = 0;
@@ -33,6 +37,3 @@ pub fn apply(alloc: Global, text: &[u8], splices: &[Splice]) -> Result<Bytes, Me
     after.extend_from_slice(&text[done..])?;
     Ok(Bytes::new(after))
 }
-
-#[cfg(test)]
-mod tests;

@@ -1,11 +1,11 @@
 -- Where lines begin.
 use Rattle.std.proofs.Common.{◌≡◌, ℕ, ◌+◌, ◌-◌, ◌<◌, suc, zero, Bool, true, false, not, cond, ◌&&◌, ◌||◌, List, [], ◌∷◌, ◌++◌, length, take, drop, filter, get_or, eqb, Option, Some, None, IfSome, slice_get, ◌⊎◌, inl, inr, subst, refl, sym, ap, ◌∙◌, arith}
 use Rattle.std.specs.Char.{encode_utf8, len_utf8}
-use Rattle.std.specs.List.{prefix_len, range_with_len, take_while}
+use Rattle.std.specs.List.{All, prefix_len, range_with_len, take_while}
 use Rattle.std.specs.Str.{chars, IsCharBoundary, IsUtf8}
 use Rattle.std.proofs.lemmas.Bool.{cases_lt, eqb-true}
 use Rattle.std.proofs.lemmas.List.{get_or_past, nil_from_length}
-use Rattle.std.proofs.lemmas.List.Elements.{filter_passes, filter-append}
+use Rattle.std.proofs.lemmas.List.Elements.{All-same, filter_passes, filter-append}
 use Rattle.std.proofs.lemmas.Option.{get_or_from_slice_get, slice_get_within}
 use Rattle.std.proofs.lemmas.Str.{chars-nil, chars_past_char, drop_past_char, IsCharBoundary-after_ascii, IsCharBoundary-start, IsUtf8-drop}
 use Rattle.wse_text.specs.Place.{ends_line, begins_line, line_starts, line_at}
@@ -72,3 +72,8 @@ starts_more text place b is =
     ∙ ap (filter (begins_line text)) (range_more 0 place place (omega arith))
     ∙ filter-append (begins_line text) (range_with_len 0 place) (place ∷ [])
     ∙ ap (λ b. filter (begins_line text) (range_with_len 0 place) ++ cond b (place ∷ []) []) (sym is)
+
+-- Each line begins between two characters.
+pub starts_boundaries : (text starts : List ℕ) → IsUtf8 text → starts ≡ line_starts text → All (IsCharBoundary text) starts
+starts_boundaries text starts utf8 same =
+    All-same (IsCharBoundary text) starts (line_starts text) same (λ k d low. begins_line_boundary text (get_or (line_starts text) k d) utf8 (filter_passes (begins_line text) (range_with_len 0 (length text + 1)) k d low))

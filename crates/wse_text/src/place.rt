@@ -1,6 +1,7 @@
 // Where a position lies in a text.
 ghost use Rattle.std.specs.Prelude.{◌≡◌, IfOk, IfErr, IfSome, slice_get};
 ghost use Rattle.std.specs.Str.{IsCharBoundary};
+ghost use Rattle.wse_text.specs.Lines.{AreLineStarts};
 ghost use Rattle.wse_text.specs.Place.{ends_line, begins_line, line_starts, line_at, units_of, place_on_line, offset_of};
 
 use wse_path::{Encoding, Position};
@@ -20,6 +21,9 @@ pub fn offset(text: &str, enc: Encoding, pos: Position) -> Result<usize, Inside>
     ensures value { result ≡ offset_of text.now enc pos }
     ensures ok { IfOk result (IsCharBoundary text.now) }
     ensures err { IfErr result (λ e. IsCharBoundary text.now e.char_start) }
+
+    // The starts of lines by which the place is said are those of the lines that the text is cut into.
+    ensures lines { AreLineStarts text.now (line_starts text.now) }
 {
     match line_start(text, pos.line) {
         Some(start) => along_line(text, start, enc, pos.character),
@@ -79,13 +83,13 @@ pub(crate) fn along_line(
     Ok(place)
 }
 
-fn ends_line(point: char) -> bool
+pub(crate) fn ends_line(point: char) -> bool
     ensures { result ≡ ends_line point }
 {
     point == '\n' || point == '\r'
 }
 
-fn units_of(enc: Encoding, point: char) -> u64
+pub(crate) fn units_of(enc: Encoding, point: char) -> u64
     ensures { result ≡ units_of enc point }
 {
     match enc {

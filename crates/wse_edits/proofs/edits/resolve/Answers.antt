@@ -1,18 +1,25 @@
-use Rattle.std.proofs.Common.{◌≤◌, sym, ap, subst, ◌∙◌, length}
+use Rattle.std.proofs.Common.{◌≤◌, All, IfSome, Option, sym, ap, subst, ◌∙◌, length}
 use Rattle.std.specs.List.{AllAdjacentBelow}
 use Rattle.std.specs.Option.{option_or}
 use Rattle.std.specs.List.Sorted.{IsPermutation, IsSortedByKey, IsStableByKey}
 use Rattle.std.specs.Ordering.{nat_cmp}
 use Rattle.wse_splice.specs.declared.splice.Splice.{Splice}
-use Rattle.wse_splice.specs.Splice.{Fits, spliced}
+use Rattle.wse_splice.specs.Splice.{Fits, LieBetweenCharacters, spliced}
 use Rattle.wse_edits.specs.Edited.{splices_of}
+use Rattle.wse_edits.specs.Range.{Rises}
 use Rattle.wse_edits.specs.Refusal.{overlap_of}
+use Rattle.wse_edits.specs.declared.range.TextRange.{TextRange}
 use Rattle.wse_edits.proofs.OverlapLemmas.{Fits-from_none, none_from_neighbours}
-use Rattle.wse_edits.proofs.SpliceLemmas.{IsSorting-made, spliced-sorted}
+use Rattle.wse_edits.proofs.RangeLemmas.{All-rise}
+use Rattle.wse_edits.proofs.SpliceLemmas.{IsSorting-made, LieBetweenCharacters-sorted, spliced-sorted}
 use Rattle.wse_edits.proofs.edits.resolve.Goals as goal
 
-pub refuse_overlap-requires : goal.refuse_overlap-requires
-refuse_overlap-requires c =
+pub refuse_overlap-requires-clause-rise : goal.refuse_overlap-requires-clause-rise
+refuse_overlap-requires-clause-rise c =
+    subst (All (λ (range : Option TextRange). IfSome range Rises)) (sym c.deref-2.ensures.value) (All-rise c.args.text.now c.in_ok-ranges.ranges.items c.in_ok-ranges.ensures.within)
+
+pub refuse_overlap-requires-clause-neighbours : goal.refuse_overlap-requires-clause-neighbours
+refuse_overlap-requires-clause-neighbours c =
     let text = c.args.text.now in
     let enc = c.args.enc in
     let edits = c.args.edits.now in
@@ -35,6 +42,7 @@ returns c =
     let same = c.new.ensures in
     record {
       fits = subst (λ ss. Fits ss (length text)) (sym same) (Fits-from_none text enc edits ys sorting none);
+      boundaries = subst (LieBetweenCharacters text) (sym same) (LieBetweenCharacters-sorted text enc edits c.in_ok-ranges.ranges.items ys c.in_ok-ranges.ensures.value c.in_ok-ranges.ensures.within sorting.permutation);
       text_after = ap (spliced text) same ∙ spliced-sorted text enc edits ys sorting;
       permutation = subst (IsPermutation (splices_of text enc edits)) (sym same) sorting.permutation;
       sorted = subst (IsSortedByKey (λ s. s.start) nat_cmp) (sym same) sorting.sorted;

@@ -1,7 +1,7 @@
 use Rattle.std.proofs.Common.{◌≡◌, ◌∷◌, ◌++◌, [], IfSome, Option, inr, length, map, sym, ap, subst, ◌∙◌, All, List, get_or, take, ℕ, ◌+◌, ◌<◌}
 use Rattle.std.proofs.lemmas.List.{map-append, take_more}
 use Rattle.std.proofs.lemmas.List.Elements.{All-push}
-use Rattle.wse_edits.specs.Range.{LiesWithin, live_range}
+use Rattle.wse_edits.specs.Range.{IsRangeOf, live_range}
 use Rattle.wse_edits.specs.declared.range.TextRange.{TextRange}
 use Rattle.wse_edits.proofs.InsideLemmas.{inside_of-first, inside_of-none, IsClearBefore-more}
 use Rattle.wse_edits.proofs.range.ranges_of.Goals as goal
@@ -15,7 +15,7 @@ returns-in-Err-clause-err c =
 
 pub loop-number-preserved : goal.loop-number-preserved
 loop-number-preserved c =
-    let lies : Option TextRange → Type 0 = λ range. IfSome range (LiesWithin (length c.args.text.now)) in
+    let lies : Option TextRange → Type 0 = λ range. IfSome range (IsRangeOf c.args.text.now) in
     let pushed = c.in_ok-push-in-Ok.ensures.items in
     record {
       value =
