@@ -1,3 +1,10 @@
+pub mod Annotations
+pub mod Commands
+pub mod Kinds
 pub mod Members
+pub mod Noted
 pub mod One
+pub mod Operations
 pub mod Seen
+pub mod Shapes
+pub mod TextEdits

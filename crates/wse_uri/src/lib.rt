@@ -6,8 +6,6 @@ pub mod laws;
 mod reading;
 mod refused;
 mod segments;
-#[cfg(test)]
-mod tests;
 mod writing;
 
 pub use file_url::root_of;

@@ -1,0 +1,11 @@
+// What lines and URIs read as.
+#![tactic(auto)]
+
+#[cfg(test)]
+mod commands;
+#[cfg(test)]
+mod one;
+#[cfg(test)]
+mod shown;
+#[cfg(test)]
+mod uris;
