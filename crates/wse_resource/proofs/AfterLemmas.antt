@@ -1,24 +1,24 @@
 -- The tree after an operation: what it has at each path, and that it is a tree.
 use Rattle.std.proofs.Common.{◌≡◌, ℕ, Bool, true, false, cond, not, ◌&&◌, List, [], ◌∷◌, map, Option, Some, None, ◌⊎◌, inl, inr, refl, sym, ap, ◌∙◌}
 use Rattle.std.specs.Prelude.{is_some}
-use Rattle.std.specs.Option.{option_map}
-use Rattle.std.specs.Ordering.{eq_by_cmp}
 use Rattle.std.specs.List.{AllByRecursion}
 use Rattle.std.specs.FinMap.{find, is_sorted}
 use Rattle.std.specs.FinMap.Entries.{find-put}
 use Rattle.std.specs.Cmp.Lexicographic.{lists_total, nat_list_cmp_total}
-use Rattle.std.proofs.lemmas.Bool.{true≢false, false_from_ne_true}
+use Rattle.std.proofs.lemmas.Bool.{false_from_ne_true}
 use Rattle.wse_path.specs.Path.{Path, is_under}
 use Rattle.wse_path.specs.Order.{path_cmp}
-use Rattle.wse_path.specs.Tree.{Entries, content, is_present, is_folder, entry_above, file_above, put_file, IsTree}
+use Rattle.wse_path.specs.Tree.{Entries, content, is_present, is_folder, file_above, put_file, IsTree}
 use Rattle.wse_path.specs.declared.operation.ResourceOp.{ResourceOp}
 use Rattle.wse_path.specs.declared.operation.ResourceOp.TheVariants.{Create, Rename, Delete}
-use Rattle.wse_path.proofs.TreeLemmas.{same_path, tree_put, rises_put}
+use Rattle.wse_path.proofs.TreeLemmas.{tree_put, rises_put}
 use Rattle.wse_resource.specs.Table.{is_within, moved, files_within}
 use Rattle.wse_resource.specs.After.{without, moved_files, after, content_after}
 use Rattle.wse_resource.proofs.WithinLemmas.{moved_within, moved_back, moved_under, above_both, under_trans}
-use Rattle.wse_resource.proofs.EntriesLemmas.{find_where, sorted_where, sorted_put_each, put_all_is, find_put_each, each_found, each_passes, has_moved_keys}
-use Rattle.wse_resource.proofs.RoomLemmas.{room_where}
+use Rattle.wse_path.proofs.PutLemmas.{find_where, sorted_where, sorted_put_each, put_all_is, find_put_each, each_found, each_passes}
+use Rattle.wse_path.proofs.RoomLemmas.{room_where}
+use Rattle.wse_path.proofs.AboveLemmas.{clash, none_above}
+use Rattle.wse_resource.proofs.EntriesLemmas.{has_moved_keys}
 
 -- ---- what it has at each path
 
@@ -28,7 +28,7 @@ content_without files p q = find_where (λ x. not (is_within x p)) q files
 pub content_within : (files : Entries) (p q : Path) → content (files_within files p) q ≡ cond (is_within q p) (content files q) None
 content_within files p q = find_where (λ x. is_within x p) q files
 
-some_before : (w : Bool) (o : Option (List ℕ)) (v : List ℕ) → cond w o None ≡ Some v → o ≡ Some v
+pub some_before : (w : Bool) (o : Option (List ℕ)) (v : List ℕ) → cond w o None ≡ Some v → o ≡ Some v
 some_before true o v e = e
 some_before false o v e = cc
 
@@ -83,18 +83,6 @@ sorted_after files (Rename from to overwrite ignore) s =
     ∙ sorted_put_each (moved_files files from to) left (sorted_where (λ q. not (is_within q to)) (without files from) (sorted_where (λ q. not (is_within q from)) files s))
 sorted_after files (Delete p recursive ignore) s = sorted_where (λ q. not (is_within q p)) files s
 
--- where nothing stands above a path, it is under none that is present
-pub none_above : (es : Entries) (p q : Path) → file_above es p ≡ None → is_present es q ≡ true → is_under p q ≡ false
-none_above [] p q above here = cc
-none_above (e ∷ es) p q above here =
-    elim (is_under p e.0) as (λ u. is_under p e.0 ≡ u → option_map (λ (x : Path × List ℕ). x.0) (cond u (Some e) (entry_above es p)) ≡ None → is_under p q ≡ false) [
-      | true ↦ λ t a. cc
-      | false ↦ λ t a. elim (eq_by_cmp path_cmp q e.0) as (λ b. eq_by_cmp path_cmp q e.0 ≡ b → is_some (cond b (Some e.1) (find path_cmp q es)) ≡ true → is_under p q ≡ false) [
-        | true ↦ λ u h. ap (is_under p) (same_path q e.0 u) ∙ t
-        | false ↦ λ u h. none_above es p q a h
-      ] refl here
-    ] refl above
-
 some_kept : (w : Bool) (o : Option (List ℕ)) → is_some (cond w None o) ≡ true → (w ≡ false) × (is_some o ≡ true)
 some_kept true o h = cc
 some_kept false o h = (refl, h)
@@ -119,9 +107,6 @@ came_by false v m c h = inr (refl, (some_kept v c h).1)
 came : (files : Entries) (from to : Path) (overwrite ignore : Bool) (q : Path) → is_sorted path_cmp files ≡ true → is_present (after files (Rename from to overwrite ignore)) q ≡ true → Came files from to q
 came files from to overwrite ignore q s h =
     came_by (is_within q to) (is_within q from) (content files (moved to from q)) (content files q) (ap is_some (sym (content_is files (Rename from to overwrite ignore) q s)) ∙ h)
-
-clash : (b : Bool) → b ≡ true → b ≡ false → ⊥
-clash b t f = true≢false (sym t ∙ f)
 
 apart_came : (files : Entries) (from to p q : Path) → IsTree files → file_above files to ≡ None → Came files from to p → Came files from to q → is_under p q ≡ true → ⊥
 apart_came files from to p q tree above (inl a) (inl b) h = clash _ (moved_under to from p q a.0 b.0 h) (tree.apart _ _ a.1 b.1)

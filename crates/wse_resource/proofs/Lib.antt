@@ -1,9 +1,7 @@
 pub mod WithinLemmas
 pub mod EntriesLemmas
-pub mod RoomLemmas
 pub mod AfterLemmas
 pub mod OutcomeLemmas
-pub mod PlanLemmas
-pub mod ChangesLemmas
 pub mod MovesLemmas
 pub mod SlowLemmas
+pub mod OverLemmas

@@ -3,13 +3,12 @@ use Rattle.std.proofs.Common.{◌≡◌, ℕ, ◌+◌, ◌<◌, Bool, true, fals
 use Rattle.std.specs.Prelude.{is_some}
 use Rattle.std.specs.Option.{option_or}
 use Rattle.std.specs.FinMap as finmap
-use Rattle.std.specs.FinMap.{put}
 use Rattle.std.specs.FinMap.Entries.{where_key, same_entries}
 use Rattle.std.specs.Cmp.Lexicographic.{lists_total, nat_list_cmp_total}
 use Rattle.std.specs.Ordering.{eq_by_cmp, is_eq}
 use Rattle.std.proofs.Math.Seq.{drop-cons}
 use Rattle.std.proofs.lemmas.Bool.{false_from_ne_true, true≢false}
-use Rattle.std.proofs.lemmas.List.{take_more, map-append, take-append-drop}
+use Rattle.std.proofs.lemmas.List.{take_more, take-append-drop}
 use Rattle.std.proofs.lemmas.List.Folds.{find-append}
 use Rattle.std.proofs.lemmas.Option.{get_or_from_slice_get, slice_get_within}
 use lib.Dec.{T}
@@ -18,9 +17,8 @@ use Rattle.wse_path.specs.Order.{path_cmp}
 use Rattle.wse_path.specs.Tree.{Entries, content, is_present, paths_under, IsTree}
 use Rattle.wse_path.proofs.TreeLemmas.{same_path}
 use Rattle.wse_resource.specs.Table.{is_within, files_within}
-use Rattle.wse_resource.specs.Plan.{put_each}
 use Rattle.wse_resource.proofs.WithinLemmas.{tied_same}
-use Rattle.wse_resource.proofs.EntriesLemmas.{sorted_where}
+use Rattle.wse_path.proofs.PutLemmas.{sorted_where}
 use Rattle.wse_resource.proofs.AfterLemmas.{content_within}
 
 drop_next : (path : Path) (i : ℕ) → i < length path → drop i path ≡ get_or path i [] ∷ drop (i + 1) path
@@ -31,20 +29,6 @@ pub push_next : (front path : Path) (i : ℕ) (s : List ℕ) → slice_get path 
 push_next front path i s e =
     append_assoc front (s ∷ []) (drop (i + 1) path)
     ∙ ap (λ t. front ++ t) (sym (drop_next path i (slice_get_within path i s e) ∙ ap (λ x. x ∷ drop (i + 1) path) (get_or_from_slice_get path i s [] e)))
-
--- one entry more
-put_each-push : {X : Type 0} (xs : List (Path × X)) (x : Path × X) (es : List (Path × X)) → put_each (xs ++ x ∷ []) es ≡ put path_cmp x.0 x.1 (put_each xs es)
-put_each-push [] x es = refl
-put_each-push (y ∷ xs) x es = put_each-push xs x (put path_cmp y.0 y.1 es)
-
-put_next : {X : Type 0} (f : Path → Path × X) (paths : List Path) (i : ℕ) (p : Path) (es : List (Path × X)) → i < length paths → p ≡ get_or paths i p → put path_cmp (f p).0 (f p).1 (put_each (map f (take i paths)) es) ≡ put_each (map f (take (i + 1) paths)) es
-put_next f paths i p es l e =
-    sym (put_each-push (map f (take i paths)) (f p) es)
-    ∙ ap (λ xs. put_each xs es) (sym (map-append f (take i paths) (p ∷ [])))
-    ∙ ap (λ ps. put_each (map f ps) es) (ap (λ x. take i paths ++ x ∷ []) e ∙ sym (take_more paths i p l))
-
-pub put_step : {X : Type 0} (f : Path → Path × X) (paths : List Path) (i : ℕ) (p : Path) (es now new : List (Path × X)) (k : Path) (v : X) → i < length paths → p ≡ get_or paths i p → new ≡ put path_cmp k v now → k ≡ (f p).0 → v ≡ (f p).1 → now ≡ put_each (map f (take i paths)) es → new ≡ put_each (map f (take (i + 1) paths)) es
-put_step f paths i p es now new k v l e is a b c = is ∙ (λ j. put path_cmp (a j) (b j) (c j)) ∙ put_next f paths i p es l e
 
 -- ---- the files at and under a path
 

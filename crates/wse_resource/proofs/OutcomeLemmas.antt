@@ -13,7 +13,7 @@ use Rattle.wse_resource.specs.Table.Outcome.{Nothing, Done, Refused}
 use Rattle.wse_resource.specs.After.{after}
 use Rattle.wse_resource.specs.Operated.{tree_by, changes_to, changed, LeavesTree}
 use Rattle.wse_resource.specs.Course.{limit_outcome}
-use Rattle.wse_resource.proofs.RoomLemmas.{room_where}
+use Rattle.wse_path.proofs.RoomLemmas.{room_where}
 use Rattle.wse_resource.proofs.AfterLemmas.{content_is, tree_created, tree_renamed, tree_without}
 
 -- ---- what a rename finds, by the answers of its tests

@@ -17,8 +17,8 @@ use Rattle.wse_resource.specs.Table.{is_within, moved, files_within, past_limit}
 use Rattle.wse_resource.specs.After.{without, moved_files, after}
 use Rattle.wse_resource.specs.Course.{is_past_limit}
 use Rattle.wse_resource.proofs.WithinLemmas.{moved_within, moved_back}
-use Rattle.wse_resource.proofs.EntriesLemmas.{has_put_all}
-use Rattle.wse_resource.proofs.RoomLemmas.{room_in}
+use Rattle.wse_path.proofs.PutLemmas.{has_put_all}
+use Rattle.wse_path.proofs.RoomLemmas.{room_in}
 use Rattle.wse_resource.proofs.MovesLemmas.{none_next, first_is}
 use Rattle.wse_resource.proofs.AfterLemmas.{content_is, tree_without, tree_renamed}
 
@@ -29,7 +29,7 @@ split_at xs i x e =
     sym (take-append-drop i xs)
     ∙ ap (λ t. take i xs ++ t) (rw add-one (drop-cons xs i x (slice_get_within xs i x e)) ∙ ap (λ y. y ∷ drop (i + 1) xs) (get_or_from_slice_get xs i x x e))
 
-take_next : {X : Type 0} (xs : List X) (i : ℕ) (x : X) → slice_get xs i ≡ Some x → take (i + 1) xs ≡ take i xs ++ x ∷ []
+pub take_next : {X : Type 0} (xs : List X) (i : ℕ) (x : X) → slice_get xs i ≡ Some x → take (i + 1) xs ≡ take i xs ++ x ∷ []
 take_next xs i x e = take_more xs i x (slice_get_within xs i x e) ∙ ap (λ y. take i xs ++ y ∷ []) (get_or_from_slice_get xs i x x e)
 
 pub content_at : (files : Entries) (i : ℕ) (e : Path × List ℕ) → is_sorted path_cmp files ≡ true → slice_get files i ≡ Some e → content files e.0 ≡ Some e.1
@@ -37,7 +37,7 @@ content_at files i e s at =
     let split = split_at files i e at in
     ap (λ es. content es e.0) split ∙ content_of (take i files) e (drop (i + 1) files) (subst (λ es. is_sorted path_cmp es ≡ true) split s)
 
-same_some : (a b : List ℕ) → ◌≡◌ {A = Option (List ℕ)} (Some a) (Some b) → a ≡ b
+pub same_some : (a b : List ℕ) → ◌≡◌ {A = Option (List ℕ)} (Some a) (Some b) → a ≡ b
 same_some a b e = cc
 
 same_key : (a b : Path) → ◌≡◌ {A = Option Path} (Some a) (Some b) → a ≡ b
@@ -48,7 +48,7 @@ pub path_within : (files : Entries) (i : ℕ) (p : Path) → slice_get (map (λ 
 path_within files i p e = subst (λ n. i < n) (length-map files (λ e. e.0)) (slice_get_within (map (λ e. e.0) files) i p e)
 
 -- what stands there
-entry_there : (files : Entries) (i : ℕ) (p : Path) → slice_get (map (λ e. e.0) files) i ≡ Some p → (e : Path × List ℕ) × (slice_get files i ≡ Some e) × (e.0 ≡ p)
+pub entry_there : (files : Entries) (i : ℕ) (p : Path) → slice_get (map (λ e. e.0) files) i ≡ Some p → (e : Path × List ℕ) × (slice_get files i ≡ Some e) × (e.0 ≡ p)
 entry_there files i p at =
     let e = get_or files i (p, []) in
     let there = slice_get-get_or files i (p, []) (path_within files i p at) in

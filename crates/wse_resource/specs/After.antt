@@ -1,10 +1,10 @@
 -- The tree after a resource operation that is done.
-use Rattle.std.specs.Prelude.{ℕ, not, List, [], map, Option, Some, None, if◌then◌else◌}
+use Rattle.std.specs.Prelude.{ℕ, not, List, [], ◌∷◌, map, Option, Some, None, if◌then◌else◌}
 use Rattle.std.specs.FinMap.Entries.{where_key}
 use Rattle.std.specs.Ordering.{eq_by_cmp}
 use Rattle.wse_path.specs.Path.{Path}
 use Rattle.wse_path.specs.Order.{path_cmp}
-use Rattle.wse_path.specs.Tree.{Entries, content, put_file, put_all}
+use Rattle.wse_path.specs.Tree.{Entries, content, put_file, put_all, remove_file}
 use Rattle.wse_path.specs.declared.operation.ResourceOp.{ResourceOp}
 use Rattle.wse_path.specs.declared.operation.ResourceOp.TheVariants.{Create, Rename, Delete}
 use Rattle.wse_resource.specs.Table.{is_within, moved, files_within}
@@ -12,6 +12,11 @@ use Rattle.wse_resource.specs.Table.{is_within, moved, files_within}
 -- The files but those at or under the path.
 abbrev pub without : Entries → Path → Entries
 without files p = where_key path_cmp (λ q. not (is_within q p)) files
+
+-- The files but for each of the paths, one after another.
+abbrev pub removed_each : List Path → Entries → Entries
+removed_each [] files = files
+removed_each (p ∷ more) files = removed_each more (remove_file files p)
 
 -- The files at and under `from`, where they go.
 abbrev pub moved_files : Entries → Path → Path → Entries

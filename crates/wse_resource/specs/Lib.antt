@@ -2,4 +2,3 @@ pub mod Table
 pub mod After
 pub mod Operated
 pub mod Course
-pub mod Plan

@@ -1,6 +1,6 @@
 // What stands at the paths of an operation, and what comes of it.
 ghost use Rattle.std.specs.Prelude.{◌≡◌, ◌⊎◌, Some, None, is_some, IfOk, IfErr, OnOk};
-ghost use Rattle.wse_path.specs.Tree.{file_above, IsTree};
+ghost use Rattle.wse_path.specs.Tree.{file_above};
 ghost use Rattle.wse_resource.specs.Table.{Outcome, is_there, unless_beneath, unless_taken, outcome, create_outcome, rename_outcome, delete_outcome, past_limit, unless_past_limit};
 ghost use Rattle.wse_resource.specs.Table.Outcome.{Done, Refused};
 ghost use Rattle.wse_resource.specs.Course.{limit_outcome, outcome_by};
@@ -28,7 +28,6 @@ pub fn course_of<C: Contents>(
         ≡ outcome_by course (limit_outcome (C.files contents.now) op.now)) }
     ensures refused { IfErr result (λ why. (why ≡ OpRefused.Memory)
         ⊎ (outcome (C.files contents.now) op.now ≡ Refused why)) }
-    ensures tree { OnOk result (IsTree (C.files contents.now)) }
 {
     match op {
         ResourceOp::Create {
@@ -61,7 +60,6 @@ fn create_course<C: Contents>(
         (λ course. create_outcome (C.files contents.now) path.now overwrite ignore ≡ outcome_by course Done) }
     ensures refused { IfErr result (λ why. (why ≡ OpRefused.Memory)
         ⊎ (create_outcome (C.files contents.now) path.now overwrite ignore ≡ Refused why)) }
-    ensures tree { IsTree (C.files contents.now) }
 {
     if contents.is_folder(path) {
         return Err(OpRefused::IsFolder);
@@ -83,7 +81,6 @@ fn rename_course<C: Contents>(
         ≡ outcome_by course (unless_past_limit (past_limit (C.files contents.now) from.now to.now))) }
     ensures refused { IfErr result (λ why. (why ≡ OpRefused.Memory)
         ⊎ (rename_outcome (C.files contents.now) from.now to.now overwrite ignore ≡ Refused why)) }
-    ensures tree { IsTree (C.files contents.now) }
 {
     if !is_there(contents, from) {
         return Err(OpRefused::NotFound);
@@ -111,7 +108,6 @@ fn delete_course<C: Contents>(
         (λ course. delete_outcome (C.files contents.now) path.now recursive ignore ≡ outcome_by course Done) }
     ensures refused { IfErr result
         (λ why. delete_outcome (C.files contents.now) path.now recursive ignore ≡ Refused why) }
-    ensures tree { IsTree (C.files contents.now) }
 {
     if contents.get(path).is_some() {
         return Ok(Course::Goes);
@@ -130,8 +126,7 @@ fn delete_course<C: Contents>(
 
 /// Whether a file or a folder is at the path.
 fn is_there<C: Contents>(contents: &C, path: &RelPath) -> bool
-    ensures there { result ≡ is_there (C.files contents.now) path.now }
-    ensures tree { IsTree (C.files contents.now) }
+    ensures { result ≡ is_there (C.files contents.now) path.now }
 {
     contents.get(path).is_some() || contents.is_folder(path)
 }

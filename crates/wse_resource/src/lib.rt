@@ -1,18 +1,14 @@
 // Resource operations over files that are looked up.
 #![tactic(auto)]
 
-mod changes;
 mod copies;
 mod course;
 mod moves;
 mod operation;
-mod plan;
+mod over;
 mod refused;
 mod slowly;
 
-pub use operation::{operate, operate_over};
+pub use operation::{operate, operate_on};
 pub use refused::OpRefused;
 pub use slowly::operated_slowly;
-
-#[cfg(test)]
-mod tests;

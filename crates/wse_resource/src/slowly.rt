@@ -1,6 +1,6 @@
 // The tree after a resource operation, built whole.
 ghost use Rattle.std.specs.Prelude.{◌≡◌, ◌⊎◌, ◌&&◌, [], None, Ok, Err, true, false, if◌then◌else◌, IfOk, IfErr, OnOk};
-ghost use Rattle.wse_path.specs.Tree.{file_above, put_file, HasRoom, IsTree};
+ghost use Rattle.wse_path.specs.Tree.{file_above, put_file, HasRoom};
 ghost use Rattle.wse_path.specs.declared.operation.ResourceOp.TheVariants.{Rename};
 ghost use Rattle.wse_resource.specs.Table.{Outcome, outcome, is_within, moved, past_limit, unless_past_limit};
 ghost use Rattle.wse_resource.specs.Table.Outcome.{Done, Refused};
@@ -29,8 +29,7 @@ pub fn operated_slowly(alloc: Global, tree: &Tree, op: &ResourceOp) -> Result<Tr
 
 /// The tree after an operation that only a limit may still refuse.
 fn done_slowly(alloc: Global, tree: &Tree, op: &ResourceOp) -> Result<Tree, OpRefused>
-    requires goes { outcome tree.now.files op.now ≡ limit_outcome tree.now.files op.now }
-    requires tree { IsTree tree.now.files }
+    requires { outcome tree.now.files op.now ≡ limit_outcome tree.now.files op.now }
     ensures tree { IfOk result (λ new. new.files ≡ after tree.now.files op.now) }
     ensures fits { OnOk result (limit_outcome tree.now.files op.now ≡ Done) }
     ensures refused { IfErr result (λ why. (why ≡ OpRefused.Memory)
@@ -60,8 +59,7 @@ fn renamed_slowly(
     from: &RelPath,
     to: &RelPath,
 ) -> Result<Tree, OpRefused>
-    requires above { file_above tree.now.files to.now ≡ None }
-    requires tree { IsTree tree.now.files }
+    requires { file_above tree.now.files to.now ≡ None }
     ensures tree { IfOk result (λ new. new.files ≡ after tree.now.files (Rename from.now to.now true true)) }
     ensures fits { OnOk result (unless_past_limit (past_limit tree.now.files from.now to.now) ≡ Done) }
     ensures refused { IfErr result (λ why. (why ≡ OpRefused.Memory)

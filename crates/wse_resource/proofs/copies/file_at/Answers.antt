@@ -4,8 +4,8 @@ use Rattle.wse_resource.proofs.copies.file_at.Goals as goal
 
 pub unwrap-requires : goal.unwrap-requires
 unwrap-requires c =
-    some_there c.get.result (ap is_some c.get.ensures.content ∙ present_at c.args.tree.now.files c.args.index c.unwrap-path.result.now c.get.ensures.tree.rises (sym c.path_at.ensures ∙ ap option_copied c.unwrap-path.ensures))
+    some_there c.get.result (ap is_some c.get.ensures ∙ present_at c.args.tree.now.files c.args.index c.unwrap-path.result.now c.args.tree.now.is_tree.rises (sym c.path_at.ensures ∙ ap option_copied c.unwrap-path.ensures))
 
 pub returns : goal.returns
 returns c =
-    entry_at c.args.tree.now.files c.args.index c.unwrap-path.result.now c.unwrap.result.now c.get.ensures.tree.rises (sym c.path_at.ensures ∙ ap option_copied c.unwrap-path.ensures) (sym c.get.ensures.content ∙ ap option_copied c.unwrap.ensures)
+    entry_at c.args.tree.now.files c.args.index c.unwrap-path.result.now c.unwrap.result.now c.args.tree.now.is_tree.rises (sym c.path_at.ensures ∙ ap option_copied c.unwrap-path.ensures) (sym c.get.ensures ∙ ap option_copied c.unwrap.ensures)

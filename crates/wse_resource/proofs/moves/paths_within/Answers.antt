@@ -9,12 +9,12 @@ use Rattle.wse_resource.proofs.moves.paths_within.Goals as goal
 pub returns-then-is_none : goal.returns-then-is_none
 returns-then-is_none g c =
     let files = g.C.Contents.files c.args.contents.now in
-    let absent = ap is_some (sym c.get.ensures.content) ∙ some_copied c.get.result ∙ c.is_none.ensures ∙ ap not c.if-is_none.true in
+    let absent = ap is_some (sym c.get.ensures) ∙ some_copied c.get.result ∙ c.is_none.ensures ∙ ap not c.if-is_none.true in
     IfOk-weaker c.under.result _ _ (λ paths h. h ∙ under_are files c.args.path.now absent) c.under.ensures
 
 pub returns : goal.returns
 returns g c =
     let files = g.C.Contents.files c.args.contents.now in
-    let here = ap is_some (sym c.get.ensures.content) ∙ some_copied c.get.result ∙ c.is_none.ensures ∙ ap not c.if-is_none.false in
+    let here = ap is_some (sym c.get.ensures) ∙ some_copied c.get.result ∙ c.is_none.ensures ∙ ap not c.if-is_none.false in
     pushed_alone c.new.result c.push.new.self.items c.new-only.result.items (map (λ e. e.0) (files_within files c.args.path.now)) c.in_ok-duplicate.field-0 c.args.path.now c.new.ensures c.in_ok-push.ensures.items c.new-only.ensures.items c.in_ok-duplicate.ensures
-    (only_one files c.args.path.now (content files c.args.path.now) c.get.ensures.tree refl here)
+    (only_one files c.args.path.now (content files c.args.path.now) (g.met.C.Contents.is_tree c.args.contents.now) refl here)

@@ -8,4 +8,4 @@ pub with_empty-requires : goal.with_empty-requires
 with_empty-requires c =
     let files = c.args.tree.now.files in
     let create = c.in-Create in
-    created_room files create.path create.overwrite create.ignore (ap (outcome files) (sym create.is) ∙ c.requires.goes ∙ ap (limit_outcome files) create.is)
+    created_room files create.path create.overwrite create.ignore (ap (outcome files) (sym create.is) ∙ c.requires ∙ ap (limit_outcome files) create.is)

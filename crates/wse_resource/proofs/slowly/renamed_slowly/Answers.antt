@@ -11,7 +11,7 @@ pub put_moved_within-requires : goal.put_moved_within-requires
 put_moved_within-requires c =
     λ within.
     subst (λ es. HasRoom es (moved c.args.from.now c.args.to.now c.file_at.result.0.now)) (sym c.loop-index.invariant.files)
-    (moved_room c.args.tree.now.files c.args.from.now c.args.to.now c.loop-index.index (c.file_at.result.0.now, c.file_at.result.1.now) c.requires.tree c.requires.above c.file_at.ensures within)
+    (moved_room c.args.tree.now.files c.args.from.now c.args.to.now c.loop-index.index (c.file_at.result.0.now, c.file_at.result.1.now) c.args.tree.now.is_tree c.requires c.file_at.ensures within)
 
 pub returns-in_err-put_moved_within-clause-refused : goal.returns-in_err-put_moved_within-clause-refused
 returns-in_err-put_moved_within-clause-refused c =

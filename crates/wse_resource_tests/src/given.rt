@@ -1,0 +1,151 @@
+// Trees and operations from text, and answers as text.
+use std::alloc::Global;
+use std::test::Fail;
+use wse_path::{Bytes, Changes, Memory, RelPath, ResourceOp, Tree};
+use wse_resource::{OpRefused, operate};
+
+/// The path with this text.
+pub fn path(alloc: Global, text: &str) -> Result<RelPath, Fail> {
+    let mut segments = Vec::new(alloc);
+    for segment in text.split('/') {
+        segments.push(String::from_str(alloc, segment)?)?;
+    }
+    Ok(RelPath::new(segments)?)
+}
+
+/// A text's bytes.
+pub fn bytes(alloc: Global, text: &str) -> Result<Bytes, Memory> {
+    Ok(Bytes::new(text.as_bytes().to_vec(alloc)?))
+}
+
+/// Puts a file that fits, or is there, and else nothing.
+pub fn put(tree: &mut Tree, path: RelPath, bytes: Bytes) -> Result<(), Memory> {
+    if tree.get(&path).is_some() || tree.fits(&path) {
+        tree.put(path, bytes)?;
+    }
+    Ok(())
+}
+
+/// The tree with these files, cut at spaces, each with its own path as its text.
+pub fn tree_of(alloc: Global, files: &str) -> Result<Tree, Fail> {
+    let mut tree = Tree::new(alloc);
+    for file in files.split(' ') {
+        if !file.is_empty() {
+            put(&mut tree, path(alloc, file)?, bytes(alloc, file)?)?;
+        }
+    }
+    Ok(tree)
+}
+
+/// The operation that is asked: `create PATH`, `rename PATH PATH` or `delete PATH`, and the options that are set.
+pub fn op_of(alloc: Global, asked: &str) -> Result<ResourceOp, Fail> {
+    let ignore = asked.contains("ignore");
+    let overwrite = asked.contains("overwrite");
+    let recursive = asked.contains("recursive");
+    let mut words = asked.split(' ');
+    let kind = words.next().unwrap_or("");
+    let path = path(alloc, words.next().unwrap_or(""))?;
+    if kind == "create" {
+        return Ok(ResourceOp::Create {
+            path,
+            overwrite,
+            ignore,
+        });
+    }
+    if kind == "delete" {
+        return Ok(ResourceOp::Delete {
+            path,
+            recursive,
+            ignore,
+        });
+    }
+    renaming(alloc, path, words.next().unwrap_or(""), overwrite, ignore)
+}
+
+fn renaming(
+    alloc: Global,
+    from: RelPath,
+    to: &str,
+    overwrite: bool,
+    ignore: bool,
+) -> Result<ResourceOp, Fail> {
+    Ok(ResourceOp::Rename {
+        from,
+        to: path(alloc, to)?,
+        overwrite,
+        ignore,
+    })
+}
+
+fn push_text(text: &mut String, bytes: &Option<Bytes>) -> Result<(), Memory> {
+    match bytes {
+        None => text.push('-')?,
+        Some(bytes) => {
+            for byte in bytes.as_slice() {
+                text.push(char::from(*byte))?;
+            }
+        }
+    }
+    Ok(())
+}
+
+/// Each changed path with its old and its new text.
+pub fn text_of(alloc: Global, changes: &Changes) -> Result<String, Memory> {
+    let mut text = String::new(alloc);
+    for change in changes.as_slice() {
+        text.push_str(change.path.text(alloc)?.as_str())?;
+        text.push(' ')?;
+        push_text(&mut text, &change.before)?;
+        text.push('>')?;
+        push_text(&mut text, &change.after)?;
+        text.push(';')?;
+    }
+    Ok(text)
+}
+
+/// A name with a path behind it.
+pub fn name_with(alloc: Global, name: &str, path: &RelPath) -> Result<String, Memory> {
+    let mut text = String::from_str(alloc, name)?;
+    text.push_str(path.text(alloc)?.as_str())?;
+    Ok(text)
+}
+
+/// A refusal in words.
+pub fn name_of(alloc: Global, why: &OpRefused) -> Result<String, Memory> {
+    let name = match why {
+        OpRefused::Exists => "exists",
+        OpRefused::IsFolder => "is a folder",
+        OpRefused::Beneath { file } => return name_with(alloc, "beneath ", file),
+        OpRefused::NotFound => "not found",
+        OpRefused::NotEmpty => "not empty",
+        OpRefused::IntoItself => "into itself",
+        OpRefused::HoldsSource => "holds source",
+        OpRefused::PathLimit { from } => return name_with(alloc, "path limit ", from),
+        OpRefused::Memory => "memory",
+    };
+    Ok(String::from_str(alloc, name)?)
+}
+
+/// What the operation changes, or why it is refused.
+pub fn answer(alloc: Global, tree: &Tree, op: &ResourceOp) -> Result<String, Memory> {
+    match operate(alloc, tree, op) {
+        Ok(changes) => text_of(alloc, &changes),
+        Err(why) => name_of(alloc, &why),
+    }
+}
+
+/// Each file with its bytes.
+pub fn listed(alloc: Global, tree: &Tree) -> Result<String, Memory> {
+    let mut text = String::new(alloc);
+    for index in 0..tree.count() {
+        if let Some(path) = tree.path_at(index) {
+            text.push_str(path.text(alloc)?.as_str())?;
+            text.push('=')?;
+            for byte in tree.get(path).unwrap_or(b"?") {
+                text.push(char::from(*byte))?;
+            }
+            text.push(';')?;
+        }
+    }
+    Ok(text)
+}
