@@ -1,0 +1,9 @@
+use Rattle.std.proofs.Common.{sym, ap, ◌∙◌}
+use Rattle.wse_apply.specs.Sizes.{plus}
+use Rattle.wse_apply.proofs.SizeLemmas.{after_more}
+use Rattle.wse_apply.proofs.sizes.size_after.Goals as goal
+
+pub loop-change-preserved : goal.loop-change-preserved
+loop-change-preserved c =
+    c.plus-all.ensures ∙ (λ i. plus (c.loop-change.invariant i) (c.content_size.ensures i))
+    ∙ after_more c.args.changes.now c.loop-change.change-index c.change-item.result c.loop-change-test.true c.change-item.is

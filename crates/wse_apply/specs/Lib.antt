@@ -1,0 +1,11 @@
+pub mod Setting
+pub mod Limit
+pub mod Stop
+pub mod Next
+pub mod Course
+pub mod Kept
+pub mod Skips
+pub mod Performed
+pub mod Sizes
+pub mod Draft
+pub mod StopFor

@@ -1,0 +1,235 @@
+// Trees, locks, limits and edits from text.
+use std::alloc::Global;
+use std::test::Fail;
+use wse_locks::Locks;
+use wse_path::{
+    Bytes, Duplicate, Edit, Edits, Encoding, FailureKind, Items, Label, Limits, Memory, Operation,
+    Operations, Position, RelPath, ResourceOp, Text, TextEdit, Tree, Versions, What,
+};
+
+/// The path with this text.
+pub fn path(alloc: Global, text: &str) -> Result<RelPath, Fail> {
+    let mut segments = Vec::new(alloc);
+    for segment in text.split('/') {
+        segments.push(String::from_str(alloc, segment)?)?;
+    }
+    Ok(RelPath::new(segments)?)
+}
+
+/// The text with line ends where it has `$`.
+fn with_line_ends(alloc: Global, text: &str) -> Result<String, Memory> {
+    let mut lines = String::new(alloc);
+    for (index, line) in text.split('$').enumerate() {
+        if index > 0 {
+            lines.push('\n')?;
+        }
+        lines.push_str(line)?;
+    }
+    Ok(lines)
+}
+
+fn put(tree: &mut Tree, path: RelPath, bytes: Bytes) -> Result<(), Memory> {
+    if tree.get(&path).is_some() || tree.fits(&path) {
+        tree.put(path, bytes)?;
+    }
+    Ok(())
+}
+
+/// The tree with these files, as `PATH=TEXT`, cut at spaces.
+pub fn tree_of(alloc: Global, files: &str) -> Result<Tree, Fail> {
+    let mut tree = Tree::new(alloc);
+    for file in files.split(' ') {
+        if let Some((name, text)) = file.split_once('=') {
+            let bytes = with_line_ends(alloc, text)?.as_bytes().to_vec(alloc)?;
+            put(&mut tree, path(alloc, name)?, Bytes::new(bytes))?;
+        }
+    }
+    Ok(tree)
+}
+
+/// Version 1 at each file of the tree.
+pub fn versions_of(alloc: Global, tree: &Tree) -> Result<Versions, Fail> {
+    let mut versions = Versions::new(alloc);
+    for index in 0..tree.count() {
+        if let Some(path) = tree.path_at(index) {
+            first_version(alloc, &mut versions, path)?;
+        }
+    }
+    Ok(versions)
+}
+
+fn first_version(alloc: Global, versions: &mut Versions, path: &RelPath) -> Result<(), Memory> {
+    versions.reserve(1)?;
+    if versions.get(path) == 0 {
+        versions.bump(path.duplicate(alloc)?, 1);
+    }
+    Ok(())
+}
+
+/// Locks of participant 2 on these paths, cut at spaces.
+pub fn locks_of(alloc: Global, files: &str) -> Result<Locks, Fail> {
+    let mut locks = Locks::new(alloc);
+    for file in files.split(' ') {
+        if !file.is_empty() {
+            locks.take(alloc, 2, &[path(alloc, file)?])?;
+        }
+    }
+    Ok(locks)
+}
+
+fn number(text: &str) -> u64 {
+    text.parse().unwrap_or(0)
+}
+
+/// The limits of the program, but for those that are given, as `files=1`.
+pub fn limits_of(words: &str) -> Limits {
+    let mut limits = Limits::standard();
+    for word in words.split(' ') {
+        match word.split_once('=') {
+            Some(("files", text)) => limits.files = number(text),
+            Some(("file-bytes", text)) => limits.file_bytes = number(text),
+            Some(("tree-bytes", text)) => limits.tree_bytes = number(text),
+            _ => (),
+        }
+    }
+    limits
+}
+
+fn kind_of(words: &str) -> FailureKind {
+    if words.contains("text-only") {
+        return FailureKind::TextOnlyTransactional;
+    }
+    if words.contains("transactional") {
+        return FailureKind::Transactional;
+    }
+    if words.contains("undo") {
+        return FailureKind::Undo;
+    }
+    FailureKind::Abort
+}
+
+fn encoding_of(words: &str) -> Encoding {
+    if words.contains("utf-8") {
+        return Encoding::Utf8;
+    }
+    if words.contains("utf-32") {
+        return Encoding::Utf32;
+    }
+    Encoding::Utf16
+}
+
+/// `LINE:CHARACTER`.
+fn position_of(text: &str) -> Position {
+    let (line, character) = text.split_once(':').unwrap_or(("0", text));
+    Position {
+        line: number(line),
+        character: number(character),
+    }
+}
+
+/// `RANGE=TEXT`, where the range is one position or two, as `0:1-0:2`. A skipped edit has a `?` in front.
+fn text_edit_of(alloc: Global, word: &str) -> Result<TextEdit, Fail> {
+    let (range, text) = word.split_once('=').unwrap_or((word, ""));
+    let range = range.trim_start_matches('?');
+    let (start, end) = range.split_once('-').unwrap_or((range, range));
+    Ok(TextEdit {
+        start: position_of(start),
+        end: position_of(end),
+        new_text: Text::new(with_line_ends(alloc, text)?),
+        skipped: word.starts_with('?'),
+    })
+}
+
+/// `PATH VERSION EDIT ..`, where a version that isn't asked for is `-`.
+fn edits_of(alloc: Global, words: &str) -> Result<What, Fail> {
+    let mut words = words.split(' ');
+    let file = path(alloc, words.next().unwrap_or(""))?;
+    let version = words.next().unwrap_or("-").parse().ok();
+    let mut edits = Vec::new(alloc);
+    for word in words {
+        edits.push(text_edit_of(alloc, word)?)?;
+    }
+    Ok(What::Text {
+        path: file,
+        version,
+        edits: Edits::new(edits),
+    })
+}
+
+/// `create PATH`, `rename PATH PATH` or `delete PATH`, and the options that are set.
+fn resource_of(alloc: Global, asked: &str) -> Result<ResourceOp, Fail> {
+    let ignore = asked.contains("ignore");
+    let overwrite = asked.contains("overwrite");
+    let recursive = asked.contains("recursive");
+    let mut words = asked.split(' ');
+    let kind = words.next().unwrap_or("");
+    let path = path(alloc, words.next().unwrap_or(""))?;
+    if kind == "create" {
+        return Ok(ResourceOp::Create {
+            path,
+            overwrite,
+            ignore,
+        });
+    }
+    if kind == "delete" {
+        return Ok(ResourceOp::Delete {
+            path,
+            recursive,
+            ignore,
+        });
+    }
+    renaming(alloc, path, words.next().unwrap_or(""), overwrite, ignore)
+}
+
+fn renaming(
+    alloc: Global,
+    from: RelPath,
+    to: &str,
+    overwrite: bool,
+    ignore: bool,
+) -> Result<ResourceOp, Fail> {
+    Ok(ResourceOp::Rename {
+        from,
+        to: path(alloc, to)?,
+        overwrite,
+        ignore,
+    })
+}
+
+fn what_of(alloc: Global, asked: &str) -> Result<What, Fail> {
+    match asked.strip_prefix("edit ") {
+        Some(words) => edits_of(alloc, words),
+        None => Ok(What::Resource(resource_of(alloc, asked)?)),
+    }
+}
+
+/// An operation. A skipped one has a `?` in front.
+fn operation_of(alloc: Global, asked: &str) -> Result<Operation, Fail> {
+    let skipped = asked.starts_with('?');
+    Ok(Operation {
+        what: what_of(alloc, asked.trim_start_matches('?'))?,
+        skipped,
+    })
+}
+
+/// Operations, cut at `;`.
+fn operations_of(alloc: Global, asked: &str) -> Result<Operations, Fail> {
+    let mut operations = Vec::new(alloc);
+    for part in asked.split(';') {
+        let part = part.trim();
+        if !part.is_empty() {
+            operations.push(operation_of(alloc, part)?)?;
+        }
+    }
+    Ok(Items::new(operations))
+}
+
+/// The edit of these operations, with the failure kind and the encoding that the words name.
+pub fn edit_of(alloc: Global, words: &str, asked: &str) -> Result<Edit, Fail> {
+    Ok(Edit {
+        label: Label::new(String::new(alloc)),
+        failure: kind_of(words),
+        encoding: encoding_of(words),
+        operations: operations_of(alloc, asked)?,
+    })
+}

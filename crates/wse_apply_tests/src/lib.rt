@@ -1,0 +1,9 @@
+// Whole edits on small trees.
+#![tactic(auto)]
+
+#[cfg(test)]
+mod answers;
+#[cfg(test)]
+mod given;
+#[cfg(test)]
+mod told;
