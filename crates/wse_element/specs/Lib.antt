@@ -1,0 +1,13 @@
+pub mod Content
+pub mod Record
+pub mod Live
+pub mod Stacks
+pub mod Losses
+pub mod Split
+pub mod State
+pub mod Effects
+pub mod Weight
+pub mod Numbers
+pub mod Apart
+pub mod Linked
+pub mod Applicable

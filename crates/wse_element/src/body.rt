@@ -1,0 +1,104 @@
+// The contents that a part holds.
+ghost use Rattle.std.specs.Prelude.{◌≡◌, ◌≢◌, ◌↔◌, not, IsTrue, IfOk};
+ghost use Rattle.wse_path.specs.Changes.{is_same};
+ghost use Rattle.wse_element.specs.Content.{old_content, new_content, no_contents, content_len};
+
+use std::alloc::Global;
+use wse_path::{Bytes, Duplicate, Memory};
+
+/// What a path had before a command, and what it had after it. Content that isn't there is None.
+#[derive(Drop)]
+pub enum Body {
+    /// Both contents, whole.
+    Whole {
+        was: Option<Bytes>,
+        is: Option<Bytes>,
+    },
+}
+
+impl Body {
+    /// Neither content. Takes no memory.
+    pub fn empty() -> Body
+        ensures { result ≡ no_contents }
+    {
+        Body::Whole {
+            was: None,
+            is: None,
+        }
+    }
+
+    /// Whether the contents differ. Takes no memory.
+    pub fn is_change(&self) -> bool
+        ensures { IsTrue result ↔ (old_content self.now ≢ new_content self.now) }
+    {
+        match self {
+            Body::Whole { was, is } => !is_equal(was, is),
+        }
+    }
+
+    /// A copy of the content before the command.
+    pub fn old_bytes(&self, alloc: Global) -> Result<Option<Bytes>, Memory>
+        ensures { IfOk result (λ bytes. bytes ≡ old_content self.now) }
+    {
+        match self {
+            Body::Whole { was, .. } => was.duplicate(alloc),
+        }
+    }
+
+    /// A copy of the content after the command.
+    pub fn new_bytes(&self, alloc: Global) -> Result<Option<Bytes>, Memory>
+        ensures { IfOk result (λ bytes. bytes ≡ new_content self.now) }
+    {
+        match self {
+            Body::Whole { is, .. } => is.duplicate(alloc),
+        }
+    }
+
+    /// How many bytes the content had before the command. Takes no memory.
+    pub fn old_len(&self) -> usize
+        ensures { result ≡ content_len (old_content self.now) }
+    {
+        match self {
+            Body::Whole { was, .. } => len_of(was),
+        }
+    }
+
+    /// How many bytes the content had after the command. Takes no memory.
+    pub fn new_len(&self) -> usize
+        ensures { result ≡ content_len (new_content self.now) }
+    {
+        match self {
+            Body::Whole { is, .. } => len_of(is),
+        }
+    }
+}
+
+fn is_equal(was: &Option<Bytes>, is: &Option<Bytes>) -> bool
+    ensures { result ≡ is_same was.now is.now }
+{
+    match (was, is) {
+        (None, None) => true,
+        (Some(was), Some(is)) => was.as_slice() == is.as_slice(),
+        _ => false,
+    }
+}
+
+fn len_of(content: &Option<Bytes>) -> usize
+    ensures { result ≡ content_len content.now }
+{
+    match content {
+        Some(bytes) => bytes.len(),
+        None => 0,
+    }
+}
+
+impl Duplicate for Body {
+    fn duplicate(&self, alloc: Global) -> Result<Body, Memory> {
+        match self {
+            Body::Whole { was, is } => Ok(Body::Whole {
+                was: was.duplicate(alloc)?,
+                is: is.duplicate(alloc)?,
+            }),
+        }
+    }
+}
