@@ -1,15 +1,3 @@
-pub mod Answering
-pub mod CauseLemmas
-pub mod Ending
-pub mod Reading
-pub mod RunLemmas
-pub mod LoadLemmas
-pub mod Starting
+pub mod ByStatus
 pub mod StatusLemmas
-pub mod Transcript
 pub mod WordLemmas
-pub mod ChangeLemmas
-pub mod StepLemmas
-pub mod BumpLemmas
-pub mod OpLemmas
-pub mod ReplyLemmas

@@ -1,19 +1,17 @@
 -- What a whole run says.
-use Rattle.std.specs.Prelude.{◌≡◌, ◌⊎◌, ℕ, ◌+◌, ◌≤◌, Bool, true, false, List, [], length, take, Option, IfSome}
-use Rattle.wse_path.specs.Causes.{Rose}
+use Rattle.std.specs.Prelude.{◌≡◌, ◌⊎◌, ◌==◌, ℕ, ◌+◌, ◌≤◌, Bool, true, false, List, [], length, take, Option, IfSome}
 use Rattle.wse_disk.specs.Calls.{Standing}
 use Rattle.wse_io.specs.Stream.{Piece, Adds, Takes, IsPrefix, bytes_of, Within}
 use Rattle.wse_io.specs.Lines.{lines}
-use Rattle.wsedit.specs.declared.setting.Setting.{Setting}
-use Rattle.wsedit.specs.Machine.{State, first_versions, transcript, state_after}
-use Rattle.wsedit.specs.Session.{StandsFor}
-use Rattle.wsedit.specs.Run.{HoldsFront}
+use Rattle.wse_serve.specs.declared.setting.Setting.{Setting}
+use Rattle.wse_serve.specs.Causes.{CountsFault}
+use Rattle.wse_serve.specs.Machine.{State, transcript, state_after}
+use Rattle.wse_serve.specs.Run.{HoldsFront}
+use Rattle.wse_serve.specs.Session.{StandsFor}
 
--- The state before the first line: the tree that is read, each of its paths at version 1, and no edit done.
-pub record IsStart (tells : Type 0) (disk : Standing) (s : State) : Type 0 where
-  pub tree : tells → StandsFor disk s
-  pub versions : s.versions ≡ first_versions s.files
-  pub none : s.done ≡ 0
+-- The most bytes of input that a run reads as lines.
+abbrev pub most_input : ℕ
+most_input = 4294967296
 
 -- The run from the first state, over the lines of the first `limit` bytes that were taken.
 pub record RunsFrom {D : Type 0} (tells : Type 0) (stands : D → Standing) (moment : D → ℕ) (old new : D) (status : ℕ) (setting : Setting) (s : State) (limit : ℕ)
@@ -40,14 +38,12 @@ pub record RunsFrom {D : Type 0} (tells : Type 0) (stands : D → Standing) (mom
   -- that the line behind them changes, where the disk failed.
   pub holds : tells → HoldsFront (status ≡ 5) setting 1 s (lines (take limit taken) over) (bytes_of added) (stands new)
 
--- No count of faults fell, and the one that the status names rose.
+-- How the counts of faults of the source, of the sink of the answers and of the disk went: only the one that the status
+-- names rose. So at any other status no fault was met.
 pub record StatusCause (status source_old source_new sink_old sink_new disk_old disk_new : ℕ) : Type 0 where
-  pub source : source_old ≤ source_new
-  pub sink : sink_old ≤ sink_new
-  pub disk : disk_old ≤ disk_new
-  pub read : status ≡ 3 → Rose source_old source_new
-  pub write : status ≡ 4 → Rose sink_old sink_new
-  pub failed : status ≡ 5 → Rose disk_old disk_new
+  pub source : CountsFault (status == 3) source_old source_new
+  pub sink : CountsFault (status == 4) sink_old sink_new
+  pub disk : CountsFault (status == 5) disk_old disk_new
 
 -- No other status comes.
 abbrev pub IsStatus : ℕ → Type 0

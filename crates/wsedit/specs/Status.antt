@@ -1,7 +1,7 @@
 -- How a run ends. All of this is this project's own rule.
 use Rattle.std.specs.Prelude.{ℕ, List, [], ◌++◌, codes, decimal, if◌then◌else◌, nat_eq}
-use Rattle.wsedit.specs.declared.serve.ServeEnd.{ServeEnd}
-use Rattle.wsedit.specs.declared.serve.ServeEnd.TheVariants as ends
+use Rattle.wse_serve.specs.declared.serving.ServeEnd.{ServeEnd}
+use Rattle.wse_serve.specs.declared.serving.ServeEnd.TheVariants as ends
 use Rattle.wsedit.specs.declared.status.Status.{Status}
 use Rattle.wsedit.specs.declared.status.Status.TheVariants.{Done, Words, Read, Write, Disk, Memory, InputLimit}
 

@@ -1,15 +1,9 @@
 // A workspace edit engine: lines of JSON come in, answers go out, and a folder tree is changed.
 #![tactic(auto)]
 
-mod load;
 mod program;
-mod reply;
-mod serve;
-mod session;
-mod setting;
 mod status;
 mod words;
-mod write;
 
 use crate::status::Status;
 pub use program::{Bounds, Ended, run, run_within};

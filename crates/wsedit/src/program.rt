@@ -1,28 +1,23 @@
 // The whole program over any source, sinks and disk.
-ghost use Rattle.std.specs.Prelude.{◌≡◌, ◌⊎◌, ◌^◌, ◌≤◌, List, ℕ, Bool, Some, None, IfOk};
+ghost use Rattle.std.specs.Prelude.{◌≡◌, ◌⊎◌, ◌^◌, ◌≤◌, List, ℕ, Bool, Some, None};
 ghost use Rattle.url.specs.Parts.{Parts};
 ghost use Rattle.wse_path.specs.Causes.{Rose};
 ghost use Rattle.wse_path.specs.Limits.{standard};
-ghost use Rattle.wse_path.specs.Tree.{IsTree};
-ghost use Rattle.wse_disk.specs.Causes.{HasReadCause};
 ghost use Rattle.wse_io.specs.Stream.{Piece, Adds, IsPrefix, bytes_of};
 ghost use Rattle.wse_uri.specs.FileUrl.{IsPlainFileUrl};
-ghost use Rattle.wsedit.specs.Machine.{State, first_versions};
-ghost use Rattle.wsedit.specs.Run.{Runs, EndCause, Lasts};
+ghost use Rattle.wse_serve.specs.Machine.{State};
+ghost use Rattle.wse_serve.specs.Run.{Runs, IsStart, EndCause, Lasts};
 ghost use Rattle.wsedit.specs.Status.{code_of, line_for};
 ghost use Rattle.wsedit.specs.Words.{texts_of, run_root};
-ghost use Rattle.wsedit.specs.Program.{IsStart, RunsFrom, StatusCause, IsStatus};
+ghost use Rattle.wsedit.specs.Program.{most_input, RunsFrom, StatusCause, IsStatus};
 
-use crate::load::{load_tree, load_versions};
-use crate::serve::{ServeEnd, Served, serve};
-use crate::session::Session;
-use crate::setting::Setting;
 use crate::status::Status;
 use crate::words::{RunWords, read_words};
 use std::alloc::Global;
-use wse_disk::{Disk, Place, ReadErr};
+use wse_disk::Place;
 use wse_io::{Sink, Source};
-use wse_path::{Limits, Memory, Tree, Versions};
+use wse_path::{Limits, Memory};
+use wse_serve::{ServeEnd, Served, Setting, serve_disk};
 
 /// The most bytes of input.
 const MAX_INPUT: u64 = 4_294_967_296;
@@ -41,28 +36,8 @@ pub struct Bounds {
     pub max_serial: u64,
 }
 
-// The tree that the disk holds, and the versions of its paths.
-#[derive(Drop)]
-struct Loaded {
-    tree: Tree,
-    versions: Versions,
-}
-
-fn load<D: Disk>(alloc: Global, disk: &mut D) -> Result<Loaded, ReadErr>
-    ensures tree { D.tells → IfOk result (λ loaded. loaded.tree.files ≡ (D.stands disk.old).reading.files) }
-    ensures versions { IfOk result (λ loaded. loaded.versions.entries ≡ first_versions loaded.tree.files) }
-    ensures sound { IfOk result (λ loaded. IsTree loaded.tree.files) }
-    ensures same { D.tells → D.stands disk.new ≡ D.stands disk.old }
-    ensures later { D.moment_of disk.old ≤ D.moment_of disk.new }
-    ensures cause { HasReadCause (D.faults disk.old) (D.faults disk.new) result }
-{
-    let tree = load_tree(alloc, disk)?;
-    let versions = load_versions(alloc, &tree)?;
-    Ok(Loaded { tree, versions })
-}
-
-/// Places the disk, loads its tree and serves.
-fn start<S: Source, K: Sink, D: Place>(
+/// Places the disk where the words say, and answers the lines of the source over the tree that it holds there.
+fn place_and_serve<S: Source, K: Sink, D: Place>(
     alloc: Global,
     words: RunWords<'_>,
     source: &mut S,
@@ -89,45 +64,28 @@ fn start<S: Source, K: Sink, D: Place>(
             end: ServeEnd::Disk,
         };
     };
-    match load(alloc, &mut disk) {
-        Ok(Loaded { tree, versions }) => {
-            let setting = Setting {
-                root: words.root,
-                serial: bounds.max_serial,
-            };
-            let session = Session {
-                disk,
-                tree,
-                versions,
-                done: 0,
-            };
-            serve(alloc, session, &setting, source, out, bounds.max_input)
-        }
-        Err(ReadErr::Failed) => Served {
-            disk,
-            end: ServeEnd::Disk,
-        },
-        Err(ReadErr::Memory) => Served {
-            disk,
-            end: ServeEnd::Memory,
-        },
-    }
+    let setting = Setting {
+        root: words.root,
+        serial: bounds.max_serial,
+    };
+    serve_disk(alloc, disk, &setting, source, out, bounds.max_input)
 }
 
-// What is known at the end of a run, before it is told.
-struct Finished<D: Place> {
+// How a run ended, before that is told.
+struct Outcome<D: Place> {
     status: Status,
     disk: D,
 }
 
-fn finish<S: Source, K: Sink, D: Place>(
+/// Runs what the words say.
+fn run_words<S: Source, K: Sink, D: Place>(
     alloc: Global,
     words: &[String],
     source: &mut S,
     out: &mut K,
     disk: D,
     bounds: Bounds,
-) -> Finished<D>
+) -> Outcome<D>
     requires some { 1 ≤ bounds.max_input }
     requires countable { bounds.max_input ≤ 2 ^ 62 }
     requires bounded { bounds.max_serial ≤ standard.serial }
@@ -145,16 +103,16 @@ fn finish<S: Source, K: Sink, D: Place>(
         out.old) (K.faults out.new) (D.faults disk) (D.faults result.disk) }
 {
     match read_words(alloc, words) {
-        Ok(None) => Finished {
+        Ok(None) => Outcome {
             status: Status::Words,
             disk,
         },
         Ok(Some(words)) => {
-            let Served { disk, end } = start(alloc, words, source, out, disk, bounds);
+            let Served { disk, end } = place_and_serve(alloc, words, source, out, disk, bounds);
             let status = Status::of(end);
-            Finished { status, disk }
+            Outcome { status, disk }
         }
-        Err(Memory) => Finished {
+        Err(Memory) => Outcome {
             status: Status::Memory,
             disk,
         },
@@ -197,7 +155,7 @@ pub fn run_within<S: Source, K: Sink, E: Sink, D: Place>(
         × IsPrefix (bytes_of told) (line_for bounds.max_input result.status)
         × ((bytes_of told ≡ line_for bounds.max_input result.status) ⊎ Rose (E.faults errs.old) (E.faults errs.new)) }
 {
-    let Finished { status, disk } = finish(alloc, words, source, out, disk, bounds);
+    let Outcome { status, disk } = run_words(alloc, words, source, out, disk, bounds);
     // A fault of errs changes no status.
     let _ = status.tell(errs, &disk, bounds.max_input);
     Ended {
@@ -223,15 +181,15 @@ pub fn run<S: Source, K: Sink, E: Sink, D: Place>(
         → (s : State) × (taken : List ℕ) × (over : Bool) × (added : List Piece)
         × IsStart D.tells (D.stands disk) s
         × RunsFrom D.tells D.stands D.moment_of disk result.disk result.status
-        (record { root = root; serial = standard.serial }) s MAX_INPUT
+        (record { root = root; serial = standard.serial }) s most_input
         (S.left source.old) (S.left source.new) (K.pieces out.old) (K.pieces out.new) taken over added }
     ensures lasts { D.tells → Lasts (D.stands disk) (D.stands result.disk) (result.status ≡ 5) }
     ensures causes { StatusCause result.status (S.faults source.old) (S.faults source.new) (K.faults out.old)
         (K.faults out.new) (D.faults disk) (D.faults result.disk) }
     ensures statuses { IsStatus result.status }
     ensures told { (told : List Piece) × Adds (E.pieces errs.old) (E.pieces errs.new) told
-        × IsPrefix (bytes_of told) (line_for MAX_INPUT result.status)
-        × ((bytes_of told ≡ line_for MAX_INPUT result.status) ⊎ Rose (E.faults errs.old) (E.faults errs.new)) }
+        × IsPrefix (bytes_of told) (line_for most_input result.status)
+        × ((bytes_of told ≡ line_for most_input result.status) ⊎ Rose (E.faults errs.old) (E.faults errs.new)) }
 {
     let bounds = Bounds {
         max_input: MAX_INPUT,

@@ -4,13 +4,13 @@ ghost use Rattle.wse_path.specs.Causes.{HasCause};
 ghost use Rattle.wse_io.specs.Stream.{Piece, Adds, IsPrefix, bytes_of};
 ghost use Rattle.wsedit.specs.Status.{code_of, status_of, line_of, limit_line};
 
-use crate::serve::ServeEnd;
 use itoa::Buffer;
 use wse_disk::Disk;
 use wse_io::{Sink, WriteFailed, emit_all};
+use wse_serve::ServeEnd;
 
 /// How a run ended.
-#[derive(Debug, Clone, Copy, PartialEq, Eq)]
+#[derive(Clone, Copy)]
 pub enum Status {
     /// All was done.
     Done,

@@ -1,0 +1,12 @@
+pub mod Answering
+pub mod BumpLemmas
+pub mod CauseLemmas
+pub mod Ending
+pub mod LoadLemmas
+pub mod OpLemmas
+pub mod Reading
+pub mod ReplyLemmas
+pub mod RunLemmas
+pub mod Starting
+pub mod StepLemmas
+pub mod Transcript

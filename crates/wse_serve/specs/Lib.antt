@@ -1,0 +1,5 @@
+pub mod Causes
+pub mod Machine
+pub mod Reply
+pub mod Run
+pub mod Session
