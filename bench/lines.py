@@ -1,15 +1,20 @@
 #!/usr/bin/env python3
-"""Prints how long the built program takes for a line, over more and more creates in nested folders.
+"""Prints how long the built program takes for a line.
 
-`bin/wsedit`, run once before, builds the program. The creates come in path order, and then in an order that scatters them."""
+First over more and more creates in nested folders, which come in path order, and then in an order that scatters them. Then for
+one command over many files: a folder is renamed, renamed past as many other files, and deleted. `bin/wsedit`, run once before,
+builds the program."""
 
 import os
 import subprocess
+import threading
 import time
 
 TOP = os.path.dirname(os.path.dirname(os.path.abspath(__file__)))
 PROGRAM = os.path.join(TOP, "crates", "wsedit", "out", "wsedit")
+COMMAND = [PROGRAM, "run", "t", "s", "file:///w"]
 COUNTS = (1_000, 8_000, 64_000)
+FOLDERS = (1_000, 4_000, 16_000)
 
 
 def paths(count):
@@ -23,20 +28,29 @@ def scattered(items):
     return [items[i * step % len(items)] for i in range(len(items))]
 
 
-def line(path):
-    uri = f"file:///w/{path}"
-    return f'{{"do":"edit","edit":{{"documentChanges":[{{"kind":"create","uri":"{uri}"}}]}}}}\n'
+def edit(operation):
+    return f'{{"do":"edit","edit":{{"documentChanges":[{{{operation}}}]}}}}\n'
+
+
+def create(path):
+    return edit(f'"kind":"create","uri":"file:///w/{path}"')
+
+
+def rename(old, new):
+    return edit(f'"kind":"rename","oldUri":"file:///w/{old}","newUri":"file:///w/{new}"')
+
+
+def delete(path):
+    return edit(f'"kind":"delete","uri":"file:///w/{path}","options":{{"recursive":true}}')
 
 
 def seconds(lines):
-    """The least time of three runs."""
+    """The least time of three runs over the lines."""
     text = "".join(lines).encode()
     best = None
     for _ in range(3):
         began = time.perf_counter()
-        done = subprocess.run(
-            [PROGRAM, "run", "t", "s", "file:///w"], input=text, stdout=subprocess.PIPE
-        )
+        done = subprocess.run(COMMAND, input=text, stdout=subprocess.PIPE)
         took = time.perf_counter() - began
         answers = done.stdout.count(b'"applied":true')
         assert done.returncode == 0 and answers == len(lines), (done.returncode, answers)
@@ -44,14 +58,54 @@ def seconds(lines):
     return best
 
 
-def main():
+def answer_seconds(lines, last):
+    """The least time, of three runs, from the last line to its answer, once the lines before it are answered."""
+    best = None
+    for _ in range(3):
+        run = subprocess.Popen(COMMAND, stdin=subprocess.PIPE, stdout=subprocess.PIPE)
+        writer = threading.Thread(target=lambda: (run.stdin.write("".join(lines).encode()), run.stdin.flush()))
+        writer.start()
+        for _ in lines:
+            run.stdout.readline()
+        writer.join()
+        began = time.perf_counter()
+        run.stdin.write(last.encode())
+        run.stdin.flush()
+        answer = run.stdout.readline()
+        took = time.perf_counter() - began
+        run.stdin.close()
+        assert run.wait() == 0 and answer.startswith(b'{"applied":true'), answer[:200]
+        best = took if best is None else min(best, took)
+    return best
+
+
+def creates():
     for name, order in (("in path order", list), ("scattered", scattered)):
         first = None
         for count in COUNTS:
-            each = seconds([line(path) for path in order(paths(count))]) / count
+            each = seconds([create(path) for path in order(paths(count))]) / count
             first = first or each
             print(f"{name}: {count} creates, {each * 1e6:.1f} microseconds a line, {each / first:.2f} times")
 
 
+def folders():
+    """Each command over a folder `d`, of which the files lie before those of a folder `m` and those of one `z`."""
+    others = lambda count: [create(f"m/{path}") for path in paths(count)]
+    for name, past, last in (
+        ("rename of a folder", lambda count: [], rename("d", "e")),
+        ("rename past as many other files", others, rename("d", "z")),
+        ("recursive delete", lambda count: [], delete("d")),
+        ("recursive delete before as many other files", others, delete("d")),
+    ):
+        before = None
+        for count in FOLDERS:
+            lines = [create(f"d/{path}") for path in paths(count)] + past(count)
+            took = answer_seconds(lines, last)
+            growth = f", {took / before:.1f} times" if before else ""
+            print(f"{name}: {count} files, {took * 1e3:.1f} milliseconds{growth}")
+            before = took
+
+
 if __name__ == "__main__":
-    main()
+    creates()
+    folders()
