@@ -3,8 +3,6 @@ pub mod Commands
 pub mod Kinds
 pub mod Members
 pub mod Noted
-pub mod One
 pub mod Operations
-pub mod Seen
 pub mod Shapes
 pub mod TextEdits

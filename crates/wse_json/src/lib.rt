@@ -3,11 +3,9 @@
 
 mod changes;
 mod command;
-mod form;
 mod kinds;
 mod members;
 mod notes;
-mod one;
 mod operations;
 mod paths;
 mod pointer;
@@ -15,5 +13,4 @@ mod shape;
 mod text_edits;
 
 pub use command::read_command;
-pub use one::{OneRefused, read_one};
 pub use shape::Shape;

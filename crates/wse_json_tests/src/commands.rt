@@ -24,6 +24,24 @@ fn is_right_edit(alloc: Global, row: &str) -> Result<bool, Fail> {
     Ok(read(alloc, line.as_bytes())?.as_str() == want)
 }
 
+fn are_right(alloc: Global, rows: &str) -> Result<bool, Fail> {
+    for row in rows.lines() {
+        if !is_right(alloc, row)? {
+            return Ok(false);
+        }
+    }
+    Ok(true)
+}
+
+fn are_right_edits(alloc: Global, rows: &str) -> Result<bool, Fail> {
+    for row in rows.lines() {
+        if !is_right_edit(alloc, row)? {
+            return Ok(false);
+        }
+    }
+    Ok(true)
+}
+
 /// Commands other than edits.
 const COMMANDS: &str = r#"{"do":"leave"} => 0 leave
 {"do":"leave","by":4294967295} => 4294967295 leave
@@ -46,9 +64,7 @@ const COMMANDS: &str = r#"{"do":"leave"} => 0 leave
 
 #[test]
 fn each_command_is_read(rt: HostRuntime) -> Result<(), Fail> {
-    for row in COMMANDS.lines() {
-        assert!(rt; is_right(rt.alloc(), row)?, "{row}");
-    }
+    assert!(rt; are_right(rt.alloc(), COMMANDS)?);
     Ok(())
 }
 
@@ -63,9 +79,7 @@ const HEADS: &str = r#"{"do":"edit","edit":{}} => 0 edit '' abort 16
 
 #[test]
 fn members_around_an_edit_have_standard_values(rt: HostRuntime) -> Result<(), Fail> {
-    for row in HEADS.lines() {
-        assert!(rt; is_right(rt.alloc(), row)?, "{row}");
-    }
+    assert!(rt; are_right(rt.alloc(), HEADS)?);
     Ok(())
 }
 
@@ -79,6 +93,7 @@ const EDITS: &str =
 {"documentChanges":[{"kind":"create","uri":"file:///w/a","options":{"ignoreIfExists":true,"overwrite":null,"recursive":7}}]} => 0 edit '' abort 16; create a false true
 {"documentChanges":[{"newUri":"file:///w/b","oldUri":"file:///w/a","kind":"rename","options":null}]} => 0 edit '' abort 16; rename a b false false
 {"documentChanges":[{"kind":"rename","oldUri":"file:///w/a","newUri":"file:///w/b","options":{"overwrite":true,"ignoreIfExists":false}}]} => 0 edit '' abort 16; rename a b true false
+{"documentChanges":[{"kind":"create","uri":"file:///w/a","kind":"delete","uri":"file:///w/b"}]} => 0 edit '' abort 16; delete b false false
 {"documentChanges":[{"kind":"delete","uri":"file:///w/d","options":{"recursive":true}}]} => 0 edit '' abort 16; delete d true false
 {"documentChanges":[{"kind":"delete","uri":"file:///w/d","options":{"ignoreIfNotExists":true,"overwrite":7}}]} => 0 edit '' abort 16; delete d false true
 {"documentChanges":[{"kind":null,"textDocument":{"uri":"file:///w/a"},"edits":[],"annotationId":7}]} => 0 edit '' abort 16; text a any
@@ -89,9 +104,7 @@ const EDITS: &str =
 
 #[test]
 fn edits_are_read(rt: HostRuntime) -> Result<(), Fail> {
-    for row in EDITS.lines() {
-        assert!(rt; is_right_edit(rt.alloc(), row)?, "{row}");
-    }
+    assert!(rt; are_right_edits(rt.alloc(), EDITS)?);
     Ok(())
 }
 
@@ -105,9 +118,7 @@ const CONFIRMATIONS: &str =
 
 #[test]
 fn what_waits_for_a_confirmation_is_skipped(rt: HostRuntime) -> Result<(), Fail> {
-    for row in CONFIRMATIONS.lines() {
-        assert!(rt; is_right(rt.alloc(), row)?, "{row}");
-    }
+    assert!(rt; are_right(rt.alloc(), CONFIRMATIONS)?);
     Ok(())
 }
 
@@ -168,9 +179,7 @@ null => field ''
 
 #[test]
 fn the_first_check_that_fails_is_told(rt: HostRuntime) -> Result<(), Fail> {
-    for row in REFUSED.lines() {
-        assert!(rt; is_right(rt.alloc(), row)?, "{row}");
-    }
+    assert!(rt; are_right(rt.alloc(), REFUSED)?);
     Ok(())
 }
 
@@ -220,9 +229,7 @@ const REFUSED_EDITS: &str =
 
 #[test]
 fn the_first_check_that_fails_in_an_edit_is_told(rt: HostRuntime) -> Result<(), Fail> {
-    for row in REFUSED_EDITS.lines() {
-        assert!(rt; is_right_edit(rt.alloc(), row)?, "{row}");
-    }
+    assert!(rt; are_right_edits(rt.alloc(), REFUSED_EDITS)?);
     Ok(())
 }
 
@@ -257,11 +264,15 @@ fn is_json_so_deep(alloc: Global, depth: usize) -> Result<bool, Fail> {
     Ok(read(alloc, line.as_bytes())?.as_str() == "0 leave")
 }
 
+fn is_no_json(alloc: Global, line: &[u8]) -> Result<bool, Fail> {
+    Ok(read(alloc, line)?.as_str() == "not JSON")
+}
+
 #[test]
 fn what_is_too_deep_or_no_text_is_no_json(rt: HostRuntime) -> Result<(), Fail> {
     assert!(rt; is_json_so_deep(rt.alloc(), 100)?);
     assert!(rt; !is_json_so_deep(rt.alloc(), 200)?);
-    assert!(rt; read(rt.alloc(), b"")?.as_str() == "not JSON");
-    assert!(rt; read(rt.alloc(), b"{\"do\":\"\xFF\"}")?.as_str() == "not JSON");
+    assert!(rt; is_no_json(rt.alloc(), b"")?);
+    assert!(rt; is_no_json(rt.alloc(), b"{\"do\":\"\xFF\"}")?);
     Ok(())
 }

@@ -4,8 +4,6 @@
 #[cfg(test)]
 mod commands;
 #[cfg(test)]
-mod one;
-#[cfg(test)]
 mod shown;
 #[cfg(test)]
 mod uris;

@@ -9,7 +9,7 @@ use wse_path::{
 };
 
 /// The kind of the operation, its paths, and its flags in the order of the fields.
-pub fn shown_resource(alloc: Global, op: &ResourceOp) -> Result<String, Fail> {
+fn shown_resource(alloc: Global, op: &ResourceOp) -> Result<String, Fail> {
     match op {
         ResourceOp::Create {
             path,

@@ -1,98 +1,128 @@
-// URIs below a root, and those that are written.
+// URIs below a root, and those that are written. A row is a URI or a segment, ` => `, and what comes of it.
 use std::alloc::Global;
 use std::test::Fail;
-use wse_path::{PathRefused, RelPath};
-use wse_uri::{RootRefused, UriRefused, path_of, root_of, uri_of};
-
-/// The two texts of the root `/w`.
-const ROOTS: [&str; 2] = ["file:///w/", "file:///w"];
+use wse_path::RelPath;
+use wse_uri::{RootRefused, path_of, root_of, uri_of};
 
 /// The path of one segment.
 fn path_with(alloc: Global, segment: &str) -> Result<RelPath, Fail> {
     Ok(RelPath::new(vec![in alloc; String::from_str(alloc, segment)?]?)?)
 }
 
-fn names(alloc: Global, root: &str, uri: &str, segment: &str) -> Result<bool, Fail> {
+const NAMES: &str = "file:///w/a%20b => a b
+file://localhost/w/a => a
+file:///w/x/../a => a";
+
+/// Whether the row's URI names the path of the row's segment.
+fn names(alloc: Global, root: &str, row: &str) -> Result<bool, Fail> {
+    let (uri, segment) = row.split_once(" => ").ok_or("a row without an arrow")?;
     let root = root_of(alloc, root)?;
     Ok(path_of(alloc, &root, uri)? == path_with(alloc, segment)?)
 }
 
+fn all_name(alloc: Global, root: &str) -> Result<bool, Fail> {
+    for row in NAMES.lines() {
+        if !names(alloc, root, row)? {
+            return Ok(false);
+        }
+    }
+    Ok(true)
+}
+
 #[test]
 fn uris_below_the_root_name_paths(rt: HostRuntime) -> Result<(), Fail> {
-    for root in &ROOTS {
-        assert!(rt; names(rt.alloc(), root, "file:///w/a%20b", "a b")?);
-        assert!(rt; names(rt.alloc(), root, "file://localhost/w/a", "a")?);
-        assert!(rt; names(rt.alloc(), root, "file:///w/x/../a", "a")?);
-    }
+    assert!(rt; all_name(rt.alloc(), "file:///w/")?);
+    assert!(rt; all_name(rt.alloc(), "file:///w")?);
     Ok(())
 }
 
-const REFUSALS: [(&str, UriRefused); 10] = [
-    ("w/a", UriRefused::NotUrl),
-    ("http://h/w/a", UriRefused::NotFile),
-    ("file://h/w/a", UriRefused::HasHost),
-    ("file:///w/a?", UriRefused::HasQuery),
-    ("file:///w/a#x", UriRefused::HasFragment),
-    ("file:///v/a", UriRefused::OutsideRoot),
-    ("file:///w/", UriRefused::IsRoot),
-    ("file:///w/%FF", UriRefused::Escape { segment: 0 }),
-    (
-        "file:///w/a//b",
-        UriRefused::Path(PathRefused::Segment { index: 1 }),
-    ),
-    (
-        "file:///w/a%2Fb",
-        UriRefused::Path(PathRefused::Segment { index: 0 }),
-    ),
-];
+const REFUSALS: &str = "w/a => NotUrl
+http://h/w/a => NotFile
+file://h/w/a => HasHost
+file:///w/a? => HasQuery
+file:///w/a#x => HasFragment
+file:///v/a => OutsideRoot
+file:///w/ => IsRoot
+file:///w/%FF => Escape { segment: 0 }
+file:///w/a//b => Path(Segment { index: 1 })
+file:///w/a%2Fb => Path(Segment { index: 0 })";
 
-fn is_refused(alloc: Global, root: &str, uri: &str, why: UriRefused) -> Result<bool, Fail> {
+/// Whether the row's URI is refused as the row says.
+fn is_refused(alloc: Global, root: &str, row: &str) -> Result<bool, Fail> {
+    let (uri, want) = row.split_once(" => ").ok_or("a row without an arrow")?;
     let root = root_of(alloc, root)?;
-    Ok(path_of(alloc, &root, uri).err() == Some(why))
+    match path_of(alloc, &root, uri) {
+        Ok(_) => Ok(false),
+        Err(why) => Ok(format!(in alloc; "{why:?}")?.as_str() == want),
+    }
+}
+
+fn all_are_refused(alloc: Global, root: &str) -> Result<bool, Fail> {
+    for row in REFUSALS.lines() {
+        if !is_refused(alloc, root, row)? {
+            return Ok(false);
+        }
+    }
+    Ok(true)
 }
 
 #[test]
 fn each_refusal_comes_in_its_case(rt: HostRuntime) -> Result<(), Fail> {
-    for (uri, why) in &REFUSALS {
-        assert!(rt; is_refused(rt.alloc(), "file:///w/", uri, *why)?, "{uri}");
-        assert!(rt; is_refused(rt.alloc(), "file:///w", uri, *why)?, "{uri}");
-    }
+    assert!(rt; all_are_refused(rt.alloc(), "file:///w/")?);
+    assert!(rt; all_are_refused(rt.alloc(), "file:///w")?);
     Ok(())
 }
 
-const NO_ROOTS: [&str; 6] = [
-    "w",
-    "http://h/",
-    "http://h/w",
-    "file://h/w",
-    "file:///w?",
-    "file:///w#",
-];
+const NO_ROOTS: &str = "w
+http://h/
+http://h/w
+file://h/w
+file:///w?
+file:///w#";
 
 fn is_no_root(alloc: Global, text: &str) -> bool {
     root_of(alloc, text).err() == Some(RootRefused::NotARoot)
 }
 
-#[test]
-fn no_other_text_is_a_root(rt: HostRuntime) {
-    for text in &NO_ROOTS {
-        assert!(rt; is_no_root(rt.alloc(), text), "{text}");
+fn are_no_roots(alloc: Global, texts: &str) -> bool {
+    for text in texts.lines() {
+        if !is_no_root(alloc, text) {
+            return false;
+        }
     }
+    true
 }
 
-fn is_written(alloc: Global, root: &str, segment: &str, want: &str) -> Result<bool, Fail> {
+#[test]
+fn no_other_text_is_a_root(rt: HostRuntime) {
+    assert!(rt; are_no_roots(rt.alloc(), NO_ROOTS));
+}
+
+const ESCAPES: &str = "a b => file:///w/a%20b
+aZ09-._~ => file:///w/aZ09-._~
+é?#% => file:///w/%C3%A9%3F%23%25";
+
+/// Whether the URI that is written for the row's segment is the row's.
+fn is_written(alloc: Global, root: &str, row: &str) -> Result<bool, Fail> {
+    let (segment, want) = row.split_once(" => ").ok_or("a row without an arrow")?;
     let root = root_of(alloc, root)?;
     let path = path_with(alloc, segment)?;
     Ok(uri_of(alloc, &root, &path)?.as_str() == want)
 }
 
+fn all_are_written(alloc: Global, root: &str) -> Result<bool, Fail> {
+    for row in ESCAPES.lines() {
+        if !is_written(alloc, root, row)? {
+            return Ok(false);
+        }
+    }
+    Ok(true)
+}
+
 #[test]
 fn all_but_unreserved_characters_are_escaped(rt: HostRuntime) -> Result<(), Fail> {
-    for root in &ROOTS {
-        assert!(rt; is_written(rt.alloc(), root, "a b", "file:///w/a%20b")?);
-        assert!(rt; is_written(rt.alloc(), root, "aZ09-._~", "file:///w/aZ09-._~")?);
-        assert!(rt; is_written(rt.alloc(), root, "é?#%", "file:///w/%C3%A9%3F%23%25")?);
-    }
+    assert!(rt; all_are_written(rt.alloc(), "file:///w/")?);
+    assert!(rt; all_are_written(rt.alloc(), "file:///w")?);
     Ok(())
 }
 
@@ -104,25 +134,42 @@ fn is_read_back(alloc: Global, root: &str, path: &RelPath) -> Result<bool, Fail>
     Ok(url.as_str() == uri.as_str() && path_of(alloc, &root, uri.as_str())? == *path)
 }
 
-fn character_is_read_back(alloc: Global, root: &str, character: char) -> Result<bool, Fail> {
+fn segment_is_read_back(alloc: Global, root: &str, character: char) -> Result<bool, Fail> {
     let mut segment = String::new(alloc);
     segment.push(character)?;
     let path = path_with(alloc, segment.as_str())?;
     is_read_back(alloc, root, &path)
 }
 
-#[test]
-fn the_url_parser_reads_uris_back(rt: HostRuntime) -> Result<(), Fail> {
-    for root in &["file:///w", "file:///w/", "file:///a/b"] {
-        for character in (1..128).map(char::from).chain(['é', '😀']) {
-            if character == '/' || character == '.' {
-                continue;
-            }
-            assert!(rt;
-                character_is_read_back(rt.alloc(), root, character)?,
-                "{character:?}"
-            );
+/// A segment of this character alone, which may be none.
+fn character_is_read_back(alloc: Global, root: &str, character: char) -> Result<bool, Fail> {
+    if character == '/' || character == '.' {
+        return Ok(true);
+    }
+    segment_is_read_back(alloc, root, character)
+}
+
+fn ascii_is_read_back(alloc: Global, root: &str) -> Result<bool, Fail> {
+    for code in 1..128 {
+        if !character_is_read_back(alloc, root, char::from(code))? {
+            return Ok(false);
         }
     }
+    Ok(true)
+}
+
+fn all_is_read_back(alloc: Global, root: &str) -> Result<bool, Fail> {
+    Ok(
+        ascii_is_read_back(alloc, root)?
+            && character_is_read_back(alloc, root, 'é')?
+            && character_is_read_back(alloc, root, '😀')?,
+    )
+}
+
+#[test]
+fn the_url_parser_reads_uris_back(rt: HostRuntime) -> Result<(), Fail> {
+    assert!(rt; all_is_read_back(rt.alloc(), "file:///w")?);
+    assert!(rt; all_is_read_back(rt.alloc(), "file:///w/")?);
+    assert!(rt; all_is_read_back(rt.alloc(), "file:///a/b")?);
     Ok(())
 }
