@@ -1,1 +1,14 @@
 mod LazyLemmas
+pub mod Moments
+pub mod AreaLemmas
+pub mod ImageLemmas
+mod LayLemmas
+mod RunLemmas
+mod EntryLemmas
+mod NearLemmas
+mod ReplayLemmas
+mod SoundLemmas
+mod PickLemmas
+pub mod WritingLemmas
+pub mod KeptLemmas
+pub mod ToldLemmas

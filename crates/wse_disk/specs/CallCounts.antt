@@ -29,6 +29,14 @@ called counts = record counts { calls = one_more counts.calls; faults = if next_
 abbrev pub starved_once : CallState → CallState
 starved_once counts = record counts { faults = one_more counts.faults; starved = one_more counts.starved }
 
+-- After one call more that found no memory, also where its number is among those that fail.
+abbrev pub starved_call : CallState → CallState
+starved_call counts = record counts { calls = one_more counts.calls; faults = one_more counts.faults; starved = one_more counts.starved }
+
+-- After one call more, which may have found no memory, whatever its number.
+abbrev pub finished : CallState → Bool → CallState
+finished counts no_memory = if no_memory then starved_call counts else called counts
+
 -- After one call more, which may have found no memory.
 abbrev pub after_call : CallState → Bool → CallState
 after_call counts no_memory = if no_memory then starved_once (called counts) else called counts

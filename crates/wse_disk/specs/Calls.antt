@@ -1,33 +1,64 @@
--- What a disk that tells tells, and what its calls do to that.
-use Rattle.std.specs.Prelude.{◌≡◌, ◌⊎◌, Bool, true, false, List, [], ℕ, Result, MatchResult, Option, Some, None}
-use Rattle.wse_disk.specs.Reading.{Reading, Write, written, DiffersAt}
-
--- What a disk tells: what is read, and whether a write came since the last sync that succeeded.
-pub record Standing : Type 0 where
-  pub reading : Reading
-  pub pending : Bool
-
--- Of a disk that tells nothing.
-abbrev pub untold : Standing
-untold = record { reading = record { files = [] }; pending = false }
+-- The calls of a disk: their conditions, what they read, and what they leave. Of a disk that tells nothing they say that it
+-- goes on telling nothing.
+use Rattle.std.specs.Prelude.{◌≡◌, ⊤, ℕ, ◌+◌, ◌<◌, ◌≤◌, Bool, List, [], length, map, is_some, option_map, slice_range, Result, Option, Some, None}
+use Rattle.wse_path.specs.Path.{Path}
+use Rattle.wse_path.specs.Tree.{content, HasRoom}
+use Rattle.wse_disk.specs.declared.area.Area.{Area}
+use Rattle.wse_disk.specs.Reading.{Write, area_of, written}
+use Rattle.wse_disk.specs.Standing.{Standing, Writes, Syncs}
+use Rattle.wse_disk.specs.Told.{WhereTold}
 
 abbrev pub bytes_or_none : Option (List ℕ) → List ℕ
 bytes_or_none (Some bytes) = bytes
 bytes_or_none None = []
 
--- After the write.
-abbrev pub wrote : Write → Standing → Standing
-wrote w s = record { reading = written w s.reading; pending = true }
+-- These are the paths of the files, in path order.
+abbrev pub ReadsNames : Option Standing → List Path → Type 0
+ReadsNames told paths = WhereTold told (λ s. paths ≡ map (λ e. e.0) s.reading.files)
 
--- After a write that failed: it changed at most what it names, and is pending as a write that was done; or it found no memory and left no trace.
-pub record FailedWrite (w : Write) (old new : Standing) : Type 0 where
-  pub reading : DiffersAt w old.reading new.reading
-  pub pending : (new ≡ old) ⊎ (new.pending ≡ true)
+-- This is the file's number of bytes, or None where there is no file.
+abbrev pub ReadsSize : Option Standing → Path → Option ℕ → Type 0
+ReadsSize told p size = WhereTold told (λ s. size ≡ option_map length (content s.reading.files p))
 
--- On Ok the write was done whole.
-abbrev pub Wrote : {T E : Type 0} → Write → Standing → Standing → Result T E → Type 0
-Wrote w old new result = MatchResult result (λ _. new ≡ wrote w old) (λ _. FailedWrite w old new)
+-- The file is there or not, as `found` says, and these are its bytes, or none where there is no file.
+abbrev pub ReadsFile : Option Standing → Path → Bool → List ℕ → Type 0
+ReadsFile told p found bytes = WhereTold told (λ s. (found ≡ is_some (content s.reading.files p)) × (bytes ≡ bytes_or_none (content s.reading.files p)))
 
--- A sync leaves what is read, and then nothing is pending.
-abbrev pub Synced : {T E : Type 0} → Standing → Standing → Result T E → Type 0
-Synced old new result = MatchResult result (λ _. new ≡ record old { pending = false }) (λ _. new ≡ old)
+-- The area has so many bytes.
+abbrev pub ReadsLength : Option Standing → Area → ℕ → Type 0
+ReadsLength told area count = WhereTold told (λ s. count ≡ length (area_of area s.reading))
+
+-- These are the `count` bytes of the area from the place on.
+abbrev pub ReadsPart : Option Standing → Area → ℕ → ℕ → List ℕ → Type 0
+ReadsPart told area place count bytes = WhereTold told (λ s. bytes ≡ slice_range (area_of area s.reading) place (place + count))
+
+-- A file may be stored or erased at the path: it is there, or nothing is above or under it.
+abbrev pub HasRoomFor : Option Standing → Path → Type 0
+HasRoomFor told p = WhereTold told (λ s. HasRoom s.reading.files p)
+
+-- The area has `count` bytes from the place on.
+abbrev pub HasPart : Option Standing → Area → ℕ → ℕ → Type 0
+HasPart told area place count = WhereTold told (λ s. place + count ≤ length (area_of area s.reading))
+
+-- Bytes may be written there: there are some, and they begin at most at the area's end.
+abbrev pub IsPatchable : Option Standing → Area → ℕ → List ℕ → Type 0
+IsPatchable told area place bytes = WhereTold told (λ s. (0 < length bytes) × (place ≤ length (area_of area s.reading)))
+
+-- Both are told and stand so to each other, or neither is told.
+abbrev pub Told : (Standing → Standing → Type 0) → Option Standing → Option Standing → Type 0
+Told R None None = ⊤
+Told R None (Some t) = ⊥
+Told R (Some s) None = ⊥
+Told R (Some s) (Some t) = R s t
+
+-- What is told after a write.
+abbrev pub Wrote : {T E : Type 0} → Write → Option Standing → Option Standing → Result T E → Type 0
+Wrote w old new result = Told (Writes w result) old new
+
+-- What is told after a sync.
+abbrev pub Synced : {T E : Type 0} → Option Standing → Option Standing → Result T E → Type 0
+Synced old new result = Told (Syncs result) old new
+
+-- What is read is what was read before, with the write done whole.
+abbrev pub HasWritten : Write → Option Standing → Option Standing → Type 0
+HasWritten w old new = Told (λ s t. t.reading ≡ written w s.reading) old new

@@ -1,6 +1,14 @@
 pub mod CallCounts
 pub mod Causes
 pub mod Reading
+pub mod Image
+pub mod Standing
+pub mod Told
 pub mod Calls
-pub mod Lazy
+pub mod LeavesOnly
+pub mod Changes
+pub mod Replay
+pub mod Chosen
+pub mod Runs
 pub mod MemState
+pub mod Lazy

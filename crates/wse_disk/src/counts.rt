@@ -1,7 +1,7 @@
 // Counts of calls, of which some are to fail.
-ghost use Rattle.std.specs.Prelude.{◌≡◌, ◌≤◌, true, false};
+ghost use Rattle.std.specs.Prelude.{◌≡◌, ◌≤◌, ◌||◌, true, false};
 ghost use Rattle.wse_path.specs.Causes.{Rose};
-ghost use Rattle.wse_disk.specs.CallCounts.{uncalled, next_fails, called, starved_once};
+ghost use Rattle.wse_disk.specs.CallCounts.{uncalled, next_fails, called, starved_once, finished};
 
 use std::marker::Model;
 
@@ -50,6 +50,30 @@ impl CallCounts {
             self.faults = self.faults.saturating_add(1);
         }
         fails
+    }
+
+    /// Whether the next call is one that fails.
+    pub fn fails_next(&self) -> bool
+        ensures { result ≡ next_fails self.now }
+    {
+        let next = self.calls.saturating_add(1);
+        self.fails.contains(&next)
+    }
+
+    /// Counts a call, which may have found no memory, and answers whether it fails.
+    pub fn finish(&mut self, no_memory: bool) -> bool
+        ensures fails { result ≡ (no_memory || next_fails self.old) }
+        ensures counts { self.new ≡ finished self.old no_memory }
+        ensures later { self.old.faults ≤ self.new.faults }
+        ensures rose { result ≡ true → Rose self.old.faults self.new.faults }
+        ensures kept { result ≡ false → self.new.faults ≡ self.old.faults }
+    {
+        if !no_memory {
+            return self.call();
+        }
+        self.calls = self.calls.saturating_add(1);
+        self.starve();
+        true
     }
 
     /// Counts that the call found no memory.

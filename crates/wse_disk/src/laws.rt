@@ -1,15 +1,39 @@
-// What disks in memory tell.
-ghost use Rattle.std.specs.Prelude.{◌≡◌};
+// What disks in memory tell, and how what is told goes on.
+ghost use Rattle.std.specs.Prelude.{◌≡◌, ◌⊎◌, ◌≤◌, ℕ, Some, length, Option, Result, ⊤};
+ghost use Rattle.wse_disk.specs.Reading.{Reading, Write};
+ghost use Rattle.wse_disk.specs.Standing.{Standing};
+ghost use Rattle.wse_disk.specs.MemState.{standing};
+ghost use Rattle.wse_disk.specs.Told.{LeftSince, IsAtRest, IsSynced, ReadsAnImage, moment_told};
+ghost use Rattle.wse_disk.specs.Calls.{Wrote, Synced};
 
 use crate::disk::Disk;
 use crate::mem::MemDisk;
 
-/// A disk in memory tells what it holds and whether a write is pending. It counts the moments that `moment` gives and the
-/// faults that `faults` gives.
+/// A disk in memory tells all. It counts the calls of its record as its moments, and the faults that `faults` gives.
 pub fn mem_disk_tells(disk: &MemDisk)
-    ensures told { ⟦<MemDisk as Disk>⟧.tells }
-    ensures files { (⟦<MemDisk as Disk>⟧.stands disk.now).reading.files ≡ disk.now.files }
-    ensures pending { (⟦<MemDisk as Disk>⟧.stands disk.now).pending ≡ disk.now.pending }
-    ensures moment { ⟦<MemDisk as Disk>⟧.moment_of disk.now ≡ disk.now.moment }
+    ensures told { ⟦<MemDisk as Disk>⟧.told disk.now ≡ Some (standing disk.now) }
+    ensures moment { ⟦<MemDisk as Disk>⟧.moment_of disk.now ≡ length disk.now.calls }
     ensures faults { ⟦<MemDisk as Disk>⟧.faults disk.now ≡ disk.now.counts.faults }
+{}
+
+/// After a call each image since an earlier moment was one since that moment before the call, or is one since the call's
+/// start; and what was one still is.
+pub fn images_go_on()
+    ensures write { (w : Write) (old new : Option Standing) (result : Result ⊤ ⊤) → Wrote w old new result
+        → (moment : ℕ) (image : Reading) → moment ≤ moment_told old → LeftSince new moment image
+        → LeftSince old moment image ⊎ LeftSince new (moment_told old) image }
+    ensures sync { (old new : Option Standing) (result : Result ⊤ ⊤) → Synced old new result
+        → (moment : ℕ) (image : Reading) → moment ≤ moment_told old → LeftSince new moment image
+        → LeftSince old moment image ⊎ LeftSince new (moment_told old) image }
+    ensures kept_by_write { (w : Write) (old new : Option Standing) (result : Result ⊤ ⊤) → Wrote w old new result
+        → (moment : ℕ) (image : Reading) → moment ≤ moment_told old → LeftSince old moment image
+        → LeftSince new moment image }
+    ensures kept_by_sync { (old new : Option Standing) (result : Result ⊤ ⊤) → Synced old new result
+        → (moment : ℕ) (image : Reading) → moment ≤ moment_told old → LeftSince old moment image
+        → LeftSince new moment image }
+{}
+
+/// Where no write came since a sync that succeeded, nothing is pending.
+pub fn synced_rests()
+    ensures { (told : Option Standing) → ReadsAnImage told → IsSynced told → IsAtRest told }
 {}

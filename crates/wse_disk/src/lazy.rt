@@ -1,10 +1,12 @@
 // A tree that makes its changes many at once.
-ghost use Rattle.std.specs.Prelude.{◌≡◌, ◌++◌, [], ◌∷◌, None, Some, OnOk, OnErr, true};
+ghost use Rattle.std.specs.Prelude.{◌≡◌, ◌++◌, [], ◌∷◌, None, Some, IfOk, OnOk, OnErr, true, length, map, option_map};
+ghost use Rattle.std.specs.Option.{option_copied};
 ghost use Rattle.std.specs.FinMap.{is_sorted};
 ghost use Rattle.wse_path.specs.Order.{path_cmp};
 ghost use Rattle.wse_path.specs.Place.{all_before};
-ghost use Rattle.wse_path.specs.Tree.{put_file, remove_file, set_file, set_files, HasRoom, IsTree};
+ghost use Rattle.wse_path.specs.Tree.{content, fits, put_file, remove_file, set_file, set_files, HasRoom, IsTree};
 
+use crate::copies::paths_of;
 use std::alloc::Global;
 use std::marker::Model;
 use std::mem;
@@ -73,6 +75,46 @@ impl LazyTree {
         lazy.tree
     }
 
+    /// The paths of all files, in path order. Makes all changes.
+    pub fn names(&mut self, alloc: Global) -> Result<Vec<RelPath>, Memory>
+        ensures names { IfOk result (λ paths. paths.items ≡ map (λ e. e.0) self.old.files) }
+        ensures files { self.new.files ≡ self.old.files }
+        ensures made { self.new.changes ≡ [] }
+    {
+        self.settle();
+        paths_of(alloc, self.tree())
+    }
+
+    /// How many bytes the file has. Makes all changes.
+    pub fn size(&mut self, path: &RelPath) -> Option<u64>
+        ensures size { result ≡ option_map length (content self.old.files path.now) }
+        ensures files { self.new.files ≡ self.old.files }
+        ensures made { self.new.changes ≡ [] }
+    {
+        self.settle();
+        self.tree().get(path).map(|bytes| bytes.len() as u64)
+    }
+
+    /// A copy of the file's bytes. Makes all changes.
+    pub fn read(&mut self, alloc: Global, path: &RelPath) -> Result<Option<Vec<u8>>, Memory>
+        ensures bytes { IfOk result (λ bytes. option_map (λ b. b.items) bytes ≡ content self.old.files path.now) }
+        ensures files { self.new.files ≡ self.old.files }
+        ensures made { self.new.changes ≡ [] }
+    {
+        self.settle();
+        copied(alloc, self.tree().get(path))
+    }
+
+    /// Whether nothing is at, above or under the path. Makes all changes.
+    pub fn fits(&mut self, path: &RelPath) -> bool
+        ensures fits { result ≡ fits self.old.files path.now }
+        ensures files { self.new.files ≡ self.old.files }
+        ensures made { self.new.changes ≡ [] }
+    {
+        self.settle();
+        self.tree().fits(path)
+    }
+
     /// Puts a copy of the bytes at the path. After Memory the files are as they were.
     pub fn put(&mut self, path: &RelPath, bytes: &[u8]) -> Result<(), Memory>
         requires { HasRoom self.old.files path.now }
@@ -133,6 +175,15 @@ impl LazyTree {
         self.tree.reserve(room)?;
         self.changes.push((path, content))?;
         Ok(())
+    }
+}
+
+fn copied(alloc: Global, bytes: Option<&[u8]>) -> Result<Option<Vec<u8>>, Memory>
+    ensures { IfOk result (λ copy. option_map (λ b. b.items) copy ≡ option_copied bytes.entry) }
+{
+    match bytes {
+        Some(bytes) => Ok(Some(bytes.to_vec(alloc)?)),
+        None => Ok(None),
     }
 }
 

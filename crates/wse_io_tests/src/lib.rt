@@ -2,8 +2,6 @@
 #![tactic(auto)]
 
 #[cfg(test)]
-mod disk;
-#[cfg(test)]
 mod flushing;
 #[cfg(test)]
 mod lines;

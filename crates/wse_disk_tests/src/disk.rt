@@ -1,21 +1,16 @@
 // A disk in memory, call by call.
 ghost use Rattle.wse_path.specs.Tree.{HasRoom};
+ghost use Rattle.wse_disk.specs.MemState.{reading};
 
+use crate::script::{erase, path, store};
 use std::alloc::Global;
 use std::test::Fail;
 use wse_disk::{Disk, Failed, MemDisk, Place};
 use wse_path::{RelPath, Tree};
 
-// The path of one segment.
-fn path(alloc: Global, segment: &str) -> Result<RelPath, Fail> {
-    let mut segments = Vec::new(alloc);
-    segments.push(String::from_str(alloc, segment)?)?;
-    Ok(RelPath::new(segments)?)
-}
-
 // Whether each kind of call was done, in this order.
 fn all_calls(alloc: Global, disk: &mut MemDisk, path: &RelPath) -> [bool; 7]
-    requires { HasRoom disk.old.files path.now }
+    requires { HasRoom (reading disk.old).files path.now }
 {
     let stored = disk.store(path, b"text").is_ok();
     let synced = disk.sync().is_ok();
@@ -31,7 +26,7 @@ fn all_calls(alloc: Global, disk: &mut MemDisk, path: &RelPath) -> [bool; 7]
 fn fails_alone(alloc: Global, number: u64) -> Result<bool, Fail> {
     let path = path(alloc, "a")?;
     let mut disk = MemDisk::new(alloc, Tree::new(alloc), [number].to_vec(alloc)?);
-    if !disk.fits(&path) {
+    if !disk.has_room(&path) {
         return Ok(false);
     }
     let done = all_calls(alloc, &mut disk, &path);
@@ -54,7 +49,7 @@ fn the_call_with_that_number_fails_and_no_other(rt: HostRuntime) -> Result<(), F
 fn failed_store_leaves_the_tree(alloc: Global) -> Result<bool, Fail> {
     let path = path(alloc, "a")?;
     let mut disk = MemDisk::new(alloc, Tree::new(alloc), [1].to_vec(alloc)?);
-    if !disk.fits(&path) {
+    if !disk.has_room(&path) {
         return Ok(false);
     }
     let stored = disk.store(&path, b"text");
@@ -71,8 +66,7 @@ fn a_store_that_fails_leaves_the_tree(rt: HostRuntime) -> Result<(), Fail> {
 // Whether each segment's own text was stored at its path, in this order.
 fn stores(alloc: Global, disk: &mut MemDisk, segments: &[&str]) -> Result<bool, Fail> {
     for segment in segments {
-        let path = path(alloc, segment)?;
-        if !disk.fits(&path) || disk.store(&path, segment.as_bytes()).is_err() {
+        if !store(alloc, disk, segment, segment)? {
             return Ok(false);
         }
     }
@@ -82,7 +76,7 @@ fn stores(alloc: Global, disk: &mut MemDisk, segments: &[&str]) -> Result<bool, 
 // Whether the path of each segment was erased, in this order.
 fn erases(alloc: Global, disk: &mut MemDisk, segments: &[&str]) -> Result<bool, Fail> {
     for segment in segments {
-        if disk.erase(&path(alloc, segment)?).is_err() {
+        if !erase(alloc, disk, segment)? {
             return Ok(false);
         }
     }
@@ -106,20 +100,6 @@ fn stored_files_are_named_in_path_order(rt: HostRuntime) -> Result<(), Fail> {
     let mut disk = MemDisk::never_failing(alloc, Tree::new(alloc));
     assert!(rt; stores(alloc, &mut disk, &["b", "a"])?);
     assert!(rt; names_are(alloc, &mut disk, &["a", "b"])?);
-    Ok(())
-}
-
-fn pending_until_synced(alloc: Global) -> Result<bool, Fail> {
-    let mut disk = MemDisk::never_failing(alloc, Tree::new(alloc));
-    let stored = stores(alloc, &mut disk, &["a"])?;
-    let before = disk.is_pending();
-    let synced = disk.sync().is_ok();
-    Ok(stored && before && synced && !disk.is_pending())
-}
-
-#[test]
-fn a_write_is_pending_until_the_sync(rt: HostRuntime) -> Result<(), Fail> {
-    assert!(rt; pending_until_synced(rt.alloc())?);
     Ok(())
 }
 
