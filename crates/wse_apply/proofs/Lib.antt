@@ -8,3 +8,5 @@ pub mod CourseLemmas
 pub mod StepLemmas
 pub mod PerformedLemmas
 pub mod LimitLemmas
+pub mod UnchangedLemmas
+pub mod DifferenceLemmas

@@ -1,5 +1,5 @@
 -- One operation: what it comes to, by its draft.
-use Rattle.std.proofs.Common.{◌≡◌, ◌⊎◌, inl, inr, Bool, true, false, List, Result, Ok, Err, refl, sym, ap, subst, ◌∙◌}
+use Rattle.std.proofs.Common.{◌≡◌, ◌⊎◌, inl, inr, true, false, List, Result, Ok, Err, refl, sym, ap, subst, ◌∙◌}
 use Rattle.std.specs.Prelude.{if◌then◌else◌}
 use Rattle.wse_path.specs.Tree.{Entries, IsTree}
 use Rattle.wse_path.specs.Changes.{LeadToTree}

@@ -1,5 +1,5 @@
 -- A resource operation does to a part of the files, which has all near its paths, what it does to all of them.
-use Rattle.std.proofs.Common.{◌≡◌, ℕ, ◌+◌, ◌<◌, Bool, true, false, cond, ◌||◌, ◌⊎◌, inl, inr, List, [], ◌∷◌, ◌++◌, map, length, take, get_or, Option, Some, None, MatchOption, Result, Ok, Err, refl, sym, ap, subst, ◌∙◌}
+use Rattle.std.proofs.Common.{◌≡◌, ℕ, ◌+◌, ◌<◌, Bool, true, false, cond, ◌||◌, inl, inr, List, [], ◌∷◌, ◌++◌, map, length, take, get_or, Option, Some, None, MatchOption, Result, Ok, Err, refl, sym, ap, subst, ◌∙◌}
 use Rattle.std.specs.Prelude.{is_some, flat_map, find as find_item, if◌then◌else◌}
 use Rattle.std.specs.Ordering.{eq_by_cmp}
 use Rattle.std.specs.FinMap.{find, is_sorted}
@@ -21,17 +21,17 @@ use Rattle.wse_path.proofs.ShownLemmas.{same_files}
 use Rattle.wse_path.proofs.ChangeLemmas.{AllTrue, unchanged_same, content_put}
 use Rattle.wse_path.proofs.GatheredLemmas.{changes_given, is_same_itself, no_changes}
 use Rattle.wse_path.proofs.LeadLemmas.{lead_rises, lead_true}
-use Rattle.wse_resource.specs.Table.{Outcome, is_within, is_there, files_within, moved, past_limit, unless_beneath, unless_past_limit, unless_taken, outcome}
+use Rattle.wse_resource.specs.Table.{Outcome, is_within, is_there, files_within, moved, unless_beneath, unless_past_limit, unless_taken, outcome}
 use Rattle.wse_resource.specs.Table.Outcome.{Nothing, Done, Refused}
 use Rattle.wse_resource.specs.After.{after, content_after}
 use Rattle.wse_resource.specs.Operated.{operated, changed, changes_to, tree_by}
 use Rattle.wse_resource.specs.declared.refused.OpRefused.{OpRefused}
 use Rattle.wse_resource.specs.declared.refused.OpRefused.TheVariants.{IsFolder, NotFound, NotEmpty}
 use Rattle.wse_resource.proofs.WithinLemmas.{moved_within}
-use Rattle.wse_resource.proofs.AfterLemmas.{content_within, content_is, sorted_after}
+use Rattle.wse_resource.proofs.AfterLemmas.{content_within, content_is}
 use Rattle.wse_resource.proofs.OutcomeLemmas.{found_by, leaves_tree}
 use Rattle.wse_apply.proofs.StepLemmas.{among_next}
-use Rattle.wse_apply.specs.Draft.{AgreeAt, IsPart, HasNear, HasPaths, IsPartFor, LeadTo}
+use Rattle.wse_apply.specs.Draft.{AgreeAt, IsPart, HasNear, IsPartFor, LeadTo}
 
 -- ---- what stands near a path
 

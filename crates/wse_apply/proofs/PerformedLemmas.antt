@@ -7,7 +7,6 @@ use Rattle.wse_path.specs.Changes.{changes_between}
 use Rattle.wse_path.specs.declared.change.Change.{Change}
 use Rattle.wse_path.specs.declared.change.Numbered.{Numbered}
 use Rattle.wse_path.specs.declared.edit.Edit.{Edit}
-use Rattle.wse_path.specs.declared.edit.Operation.{Operation}
 use Rattle.wse_path.proofs.GatheredLemmas.{no_changes}
 use Rattle.wse_apply.specs.Limit.{limit_hit, are_within}
 use Rattle.wse_apply.specs.Setting.{SettingState}

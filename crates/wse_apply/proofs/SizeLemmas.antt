@@ -1,5 +1,5 @@
 -- What changes make of the size of a tree, and of the first large file in it.
-use Rattle.std.proofs.Common.{◌≡◌, ℕ, suc, ◌+◌, ◌-◌, ◌^◌, ◌<◌, ◌≤◌, min, get_or, take, Bool, true, false, cond, ◌||◌, List, [], ◌∷◌, ◌++◌, map, length, Option, Some, None, refl, sym, ap, ◌∙◌, arith}
+use Rattle.std.proofs.Common.{◌≡◌, ℕ, suc, ◌+◌, ◌-◌, ◌^◌, ◌<◌, ◌≤◌, get_or, take, true, false, cond, List, [], ◌∷◌, ◌++◌, map, length, Option, Some, None, refl, sym, ap, ◌∙◌, arith}
 use Rattle.std.specs.Prelude.{flat_map, sum_by, nat_lt, find as find_item}
 use Rattle.std.specs.Option.{option_to_list, option_or}
 use Rattle.std.specs.FinMap.{is_sorted}
@@ -8,7 +8,7 @@ use Rattle.std.proofs.lemmas.List.Sums.{sum_by-cons, sum_by_more}
 use Rattle.wse_path.specs.Path.{Path}
 use Rattle.wse_path.specs.Order.{path_cmp}
 use Rattle.wse_path.specs.PathMap.{capped}
-use Rattle.wse_path.specs.Tree.{Entries, content, is_present, put_all}
+use Rattle.wse_path.specs.Tree.{Entries, content, put_all}
 use Rattle.wse_path.specs.Changes.{is_same, change_at, changes_between}
 use Rattle.wse_path.specs.declared.change.Change.{Change}
 use Rattle.wse_path.proofs.PutLemmas.{put_all_is, sorted_put_each, has_put_all}

@@ -1,12 +1,11 @@
 -- One item more, in loops over the changes, the operations and their edits.
-use Rattle.std.proofs.Common.{◌≡◌, ℕ, suc, ◌+◌, ◌<◌, ◌≤◌, Bool, true, false, cond, ◌||◌, List, [], ◌∷◌, ◌++◌, map, length, get_or, take, drop, Option, Some, None, refl, sym, ap, ◌∙◌, append_assoc, add-one}
+use Rattle.std.proofs.Common.{◌≡◌, ℕ, suc, ◌+◌, ◌<◌, ◌≤◌, Bool, true, false, cond, ◌||◌, List, [], ◌∷◌, ◌++◌, map, length, get_or, take, drop, None, refl, sym, ap, ◌∙◌, append_assoc, add-one}
 use Rattle.std.proofs.Math.Seq.{drop-cons}
 use Rattle.std.proofs.lemmas.List.{take_more, drop_all, append-nil}
 use Rattle.std.proofs.lemmas.List.Folds.{list_any-append}
 use Rattle.std.specs.List.{filter}
 use Rattle.std.specs.Option.{option_or}
 use Rattle.std.specs.Ordering.{eq_by_cmp}
-use Rattle.std.proofs.lemmas.Bool.{or_cases}
 use Rattle.wse_path.specs.Path.{Path}
 use Rattle.wse_path.specs.Order.{path_cmp}
 use Rattle.wse_path.specs.Overlay.{is_among}
@@ -20,7 +19,6 @@ use Rattle.wse_locks.specs.Locks.{Holders, is_held}
 use Rattle.wse_apply.specs.Stop.{held_among}
 use Rattle.wse_apply.specs.Sizes.{first_after_above, bytes_above}
 use Rattle.wse_apply.specs.Skips.{skips_edit, skipped_edits, skips_at, skips_from}
-use Rattle.wse_apply.specs.declared.skips.Skip.{Skip}
 
 pub drop_next : {X : Type 0} (xs : List X) (i : ℕ) (d : X) → i < length xs → d ≡ get_or xs i d → drop i xs ≡ d ∷ drop (i + 1) xs
 drop_next xs i d l e = drop-cons xs i d l ∙ ap (λ x. x ∷ drop (suc i) xs) (sym e) ∙ ap (λ n. d ∷ drop n xs) (sym (add-one i))

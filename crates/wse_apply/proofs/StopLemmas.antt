@@ -1,11 +1,9 @@
 -- Whether changes may be made, by the changes and by the trees.
-use Rattle.std.proofs.Common.{◌≡◌, ℕ, ◌+◌, ◌-◌, ◌^◌, ◌≤◌, ◌<◌, min, Bool, true, false, cond, List, [], ◌∷◌, Option, Some, None, Result, Ok, Err, refl, sym, ap, subst, ◌∙◌, arith, lit<}
+use Rattle.std.proofs.Common.{◌≡◌, ℕ, ◌-◌, ◌^◌, ◌≤◌, ◌<◌, min, true, false, cond, List, Option, Some, None, Ok, Err, refl, sym, ap, subst, ◌∙◌, arith, lit<}
 use Rattle.std.specs.Prelude.{nat_lt, sum_by, length}
 use Rattle.std.specs.Option.{option_or, option_map}
 use Rattle.std.proofs.lemmas.Bool.{ltb-false, leb-true, and_parts}
 use Rattle.wse_path.specs.Limits.{standard}
-use Rattle.wse_path.specs.Path.{Path}
-use Rattle.wse_path.specs.PathMap.{capped}
 use Rattle.wse_path.specs.Tree.{Entries, total_bytes, HasRoom, IsTree}
 use Rattle.wse_path.specs.Changes.{changes_between, LeadToTree, erased, stored}
 use Rattle.wse_path.specs.declared.change.Change.{Change}
@@ -15,7 +13,7 @@ use Rattle.wse_path.specs.declared.limits.Which.TheVariants.{Files, FileBytes, T
 use Rattle.wse_path.proofs.LeadLemmas.{room_to_store_next, finished}
 use Rattle.wse_apply.specs.Limit.{limit_hit, hit_by, hit_above, file_count, first_above, are_within}
 use Rattle.wse_apply.specs.Setting.{SettingState}
-use Rattle.wse_apply.specs.Sizes.{sizes_of, plus, minus, size_before, size_after, size_hit, hit_after, first_after_above}
+use Rattle.wse_apply.specs.Sizes.{sizes_of, plus, minus, size_before, size_after, hit_after}
 use Rattle.wse_apply.specs.Stop.{stop, stop_by, unless, changed_to, locked_by, held_among}
 use Rattle.wse_apply.specs.Draft.{LeadTo, AreSmall, FindRoom}
 use Rattle.wse_apply.specs.declared.reason.Reason.{Reason}

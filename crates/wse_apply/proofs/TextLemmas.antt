@@ -1,5 +1,5 @@
 -- Edits of a text as the change of one file, and why they are refused.
-use Rattle.std.proofs.Common.{◌≡◌, ℕ, ℤ, pos, Bool, true, false, cond, ◌⊎◌, inl, inr, List, [], ◌∷◌, ◌++◌, Option, Some, None, MatchOption, Result, Ok, Err, refl, sym, ap, subst, ◌∙◌}
+use Rattle.std.proofs.Common.{◌≡◌, ℕ, ℤ, pos, true, false, cond, ◌⊎◌, inl, inr, List, [], ◌∷◌, ◌++◌, Option, Some, None, MatchOption, Err, refl, sym, ap, subst, ◌∙◌}
 use Rattle.std.specs.Prelude.{is_some, if◌then◌else◌}
 use Rattle.std.specs.Cmp.{signed_Decides}
 use Rattle.std.specs.Option.{option_or}
@@ -12,7 +12,7 @@ use Rattle.wse_path.specs.Path.{Path}
 use Rattle.wse_path.specs.Order.{path_cmp}
 use Rattle.wse_path.specs.Tree.{Entries, content, is_folder, put_file, IsTree}
 use Rattle.wse_path.specs.Versions.{version_of}
-use Rattle.wse_path.specs.Changes.{is_same, changes_between}
+use Rattle.wse_path.specs.Changes.{is_same}
 use Rattle.wse_path.specs.declared.change.Change.{Change}
 use Rattle.wse_path.specs.declared.position.Encoding.{Encoding}
 use Rattle.wse_path.specs.declared.position.TextEdit.{TextEdit}
@@ -146,3 +146,19 @@ text_clear text bytes enc es e utf8 h =
 pub no_text : (bytes : List ℕ) (enc : Encoding) (es : List TextEdit) (at : ℕ) → ¬ (IsUtf8 bytes) → at ≡ utf8_valid_len bytes → option_or (not_text bytes) (edits_reason (refusal bytes enc es)) ≡ Some (reason.NotText at)
 no_text bytes enc es at h e =
     ap (λ o. option_or o (edits_reason (refusal bytes enc es))) (utf8_some bytes h) ∙ ap (λ n. Some (reason.NotText n)) (sym e)
+
+-- ---- the version, and then the text
+
+-- nothing is said against either
+pub clear_after : (setting : SettingState) (p : Path) (version : Option ℤ) (es : List TextEdit) (bytes : List ℕ) (have : ℕ) (enc : Encoding) → have ≡ version_of setting.versions p → enc ≡ setting.encoding → version_refusal version have ≡ None
+    → option_or (not_text bytes) (edits_reason (refusal bytes enc es)) ≡ None → text_refusal setting p version es bytes ≡ None
+clear_after setting p version es bytes have enc h e none clear =
+    let text = ap (λ (x : Encoding). option_or (not_text bytes) (edits_reason (refusal bytes x es))) (sym e) ∙ clear in
+    λ i. option_or ((ap (version_refusal version) (sym h) ∙ none) i) (text i)
+
+-- something is said against the text
+pub told_after : (setting : SettingState) (p : Path) (version : Option ℤ) (es : List TextEdit) (bytes : List ℕ) (have : ℕ) (enc : Encoding) (stop : Stop) → have ≡ version_of setting.versions p → enc ≡ setting.encoding → version_refusal version have ≡ None
+    → TellsReason (option_or (not_text bytes) (edits_reason (refusal bytes enc es))) stop → TellsReason (text_refusal setting p version es bytes) stop
+told_after setting p version es bytes have enc stop h e none told =
+    told_second (version_refusal version (version_of setting.versions p)) (option_or (not_text bytes) (edits_reason (refusal bytes setting.encoding es))) stop (ap (version_refusal version) (sym h) ∙ none)
+    (subst (λ (x : Encoding). TellsReason (option_or (not_text bytes) (edits_reason (refusal bytes x es))) stop) e told)

@@ -1,5 +1,5 @@
 -- The operations of an edit one after another: a list of whole trees, and the first operation that fails.
-use Rattle.std.specs.Prelude.{ℕ, zero, suc, List, [], ◌∷◌, Option, Some, None, option_map, Result, Ok, Err, slice_index_or}
+use Rattle.std.specs.Prelude.{ℕ, suc, List, [], ◌∷◌, Option, Some, None, option_map, Result, Ok, Err, slice_index_or}
 use Rattle.std.specs.Result.{result_err}
 use Rattle.wse_path.specs.Tree.{Entries}
 use Rattle.wse_path.specs.declared.edit.Operation.{Operation}

@@ -1,5 +1,5 @@
 -- An operation that is drafted: its changes are known, and nothing is done yet.
-use Rattle.std.specs.Prelude.{◌≡◌, ℕ, Bool, true, List, [], if◌then◌else◌, ◌∷◌, ◌++◌, Option, Some, None, Result, Ok, Err, ⊤}
+use Rattle.std.specs.Prelude.{◌≡◌, ℕ, true, List, [], if◌then◌else◌, ◌∷◌, ◌++◌, Option, Some, None, Result, Err, ⊤}
 use Rattle.wse_path.specs.Path.{Path}
 use Rattle.wse_path.specs.Tree.{Entries, content, is_present, is_near, HasRoom, IsTree}
 use Rattle.wse_path.specs.Changes.{is_same, changes_between, stored}

@@ -1,9 +1,8 @@
 -- What becomes of an edit that fails, by its failure kind: LSP 3.17, "FailureHandlingKind". What `undo` does with
 -- versions is this project's own rule.
-use Rattle.std.specs.Prelude.{ℕ, ◌==◌, Bool, true, false, ◌&&◌, List, [], ◌∷◌, map, Option, Some, None, if◌then◌else◌}
+use Rattle.std.specs.Prelude.{ℕ, ◌==◌, Bool, true, false, List, [], map, Option, Some, None, if◌then◌else◌}
 use Rattle.std.specs.List.{list_all}
 use Rattle.wse_path.specs.Tree.{Entries}
-use Rattle.wse_path.specs.Changes.{changes_between}
 use Rattle.wse_path.specs.declared.change.Change.{Change}
 use Rattle.wse_path.specs.declared.change.Numbered.{Numbered}
 use Rattle.wse_path.specs.declared.edit.Operation.{Operation}

@@ -9,3 +9,4 @@ pub mod Performed
 pub mod Sizes
 pub mod Draft
 pub mod StopFor
+pub mod Unchanged

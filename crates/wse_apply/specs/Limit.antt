@@ -1,5 +1,5 @@
 -- The first limit that a tree passes: bytes of a file, then files, then bytes of all files. This project's own rule.
-use Rattle.std.specs.Prelude.{ℕ, ◌-◌, ◌^◌, ◌&&◌, Bool, min, List, map, find, length, nat_lt, nat_le, Option, Some, None, option_map, if◌then◌else◌}
+use Rattle.std.specs.Prelude.{ℕ, ◌-◌, ◌^◌, ◌&&◌, Bool, min, map, find, length, nat_lt, nat_le, Option, Some, None, option_map, if◌then◌else◌}
 use Rattle.std.specs.Option.{option_or}
 use Rattle.wse_path.specs.Tree.{Entries, total_bytes}
 use Rattle.wse_path.specs.declared.limits.Limits.{Limits}

@@ -1,5 +1,5 @@
 -- How many files a tree has and how many bytes, and what changes make of it.
-use Rattle.std.specs.Prelude.{ℕ, ◌+◌, ◌-◌, ◌^◌, min, List, length, sum_by, nat_lt, Option, Some, None, option_map, if◌then◌else◌}
+use Rattle.std.specs.Prelude.{ℕ, ◌+◌, ◌-◌, List, length, sum_by, nat_lt, Option, Some, None, option_map, if◌then◌else◌}
 use Rattle.std.specs.Option.{option_or}
 use Rattle.wse_path.specs.PathMap.{capped}
 use Rattle.wse_path.specs.Tree.{Entries, total_bytes}

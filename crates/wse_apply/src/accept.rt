@@ -35,7 +35,7 @@ fn note_held(
 }
 
 /// The changed paths that another participant holds.
-fn held_among(alloc: Global, setting: &Setting<'_>, changes: &[Change]) -> Result<Files, Memory>
+pub fn held_among(alloc: Global, setting: &Setting<'_>, changes: &[Change]) -> Result<Files, Memory>
     ensures { IfOk result (λ files. files ≡ held_among setting.now.locks setting.now.by changes.now) }
 {
     let mut files = Vec::new(alloc);

@@ -57,7 +57,7 @@ fn step(
 }
 
 /// The failure of the operation with that index.
-fn failed_at(index: u64, stop: Stop) -> Result<Option<(u64, Reason)>, Memory>
+pub fn failed_at(index: u64, stop: Stop) -> Result<Option<(u64, Reason)>, Memory>
     ensures { IfOk result (IsFailureOf stop index) }
 {
     match stop {

@@ -12,7 +12,7 @@ use std::alloc::Global;
 use wse_path::{Changes, Overlay, ResourceOp};
 use wse_resource::{OpRefused, operate};
 
-fn stop_for(why: OpRefused) -> Stop
+pub fn stop_for(why: OpRefused) -> Stop
     ensures { result ≡ stop_for why }
 {
     match why {

@@ -1,6 +1,6 @@
 // Edits of a file's text, as changes that aren't made yet.
 ghost use Rattle.std.specs.Prelude.{◌≡◌, None, Some, IfOk, IfErr, OnOk, length};
-ghost use Rattle.std.specs.Option.{option_or};
+ghost use Rattle.std.specs.Option.{option_or, unwrap_or};
 ghost use Rattle.wse_splice.specs.Splice.{Fits, spliced};
 ghost use Rattle.wse_edits.specs.Edited.{edited};
 ghost use Rattle.wse_edits.specs.Refusal.{refusal};
@@ -11,6 +11,7 @@ use crate::copies::copy_bytes;
 use crate::reason::Reason;
 use crate::setting::Setting;
 use crate::stop::Stop;
+use crate::unchanged::all_leave;
 use std::alloc::Global;
 use wse_edits::{EditsRefused, resolve};
 use wse_path::{
@@ -22,7 +23,7 @@ use wse_splice::{Splices, apply};
 use wse_text::as_text;
 
 /// Refuses another version than the one that is wanted.
-fn check_version(want: Option<i64>, have: u32) -> Result<(), Stop>
+pub fn check_version(want: Option<i64>, have: u32) -> Result<(), Stop>
     ensures ok { OnOk result (version_refusal want have ≡ None) }
     ensures refused { IfErr result (TellsReason (version_refusal want have)) }
 {
@@ -52,7 +53,12 @@ fn stop_of(why: EditsRefused) -> Stop
 }
 
 /// The edits as splices.
-fn splices_of(alloc: Global, text: &str, enc: Encoding, edits: &[TextEdit]) -> Result<Splices, Stop>
+pub fn splices_of(
+    alloc: Global,
+    text: &str,
+    enc: Encoding,
+    edits: &[TextEdit],
+) -> Result<Splices, Stop>
     ensures fits { IfOk result (λ splices. Fits splices (length text.now)) }
     ensures text_after { IfOk result (λ splices. spliced text.now splices ≡ edited text.now enc edits.now) }
     ensures ok { OnOk result (edits_reason (refusal text.now enc edits.now) ≡ None) }
@@ -64,9 +70,14 @@ fn splices_of(alloc: Global, text: &str, enc: Encoding, edits: &[TextEdit]) -> R
     }
 }
 
-/// The text after the edits.
-fn edited(alloc: Global, bytes: &[u8], enc: Encoding, edits: &[TextEdit]) -> Result<Bytes, Stop>
-    ensures after { IfOk result (λ after. after ≡ edited bytes.now enc edits.now) }
+/// The text after the edits, or None where they leave it.
+fn edited(
+    alloc: Global,
+    bytes: &[u8],
+    enc: Encoding,
+    edits: &[TextEdit],
+) -> Result<Option<Bytes>, Stop>
+    ensures after { IfOk result (λ after. unwrap_or after bytes.now ≡ edited bytes.now enc edits.now) }
     ensures ok { OnOk result (option_or (not_text bytes.now) (edits_reason (refusal bytes.now enc edits.now)) ≡ None) }
     ensures refused { IfErr result (TellsReason (option_or (not_text bytes.now) (edits_reason (refusal bytes.now enc edits.now)))) }
 {
@@ -76,18 +87,41 @@ fn edited(alloc: Global, bytes: &[u8], enc: Encoding, edits: &[TextEdit]) -> Res
     }
 }
 
-fn edited_text(alloc: Global, text: &str, enc: Encoding, edits: &[TextEdit]) -> Result<Bytes, Stop>
-    ensures after { IfOk result (λ after. after ≡ edited text.now enc edits.now) }
+/// It is made only where some edit puts another text than stands there.
+fn edited_text(
+    alloc: Global,
+    text: &str,
+    enc: Encoding,
+    edits: &[TextEdit],
+) -> Result<Option<Bytes>, Stop>
+    ensures after { IfOk result (λ after. unwrap_or after text.now ≡ edited text.now enc edits.now) }
     ensures ok { OnOk result (edits_reason (refusal text.now enc edits.now) ≡ None) }
     ensures refused { IfErr result (TellsReason (edits_reason (refusal text.now enc edits.now))) }
 {
     let splices = splices_of(alloc, text, enc, edits)?;
+    if all_leave(text.as_bytes(), splices.as_slice()) {
+        return Ok(None);
+    }
     let after = apply(alloc, text.as_bytes(), splices.as_slice())?;
-    Ok(after)
+    Ok(Some(after))
 }
 
-/// The change of a file's content, if it is one.
-fn change_of(alloc: Global, path: &RelPath, before: &[u8], after: Bytes) -> Result<Changes, Memory>
+/// The change of a file's content, if it is one. None leaves it.
+fn change_of(
+    alloc: Global,
+    path: &RelPath,
+    before: &[u8],
+    after: Option<Bytes>,
+) -> Result<Changes, Memory>
+    ensures { IfOk result (λ changes. changes ≡ change_of path.now before.now (unwrap_or after before.now)) }
+{
+    match after {
+        Some(after) => change_to(alloc, path, before, after),
+        None => Ok(Items::new(Vec::new(alloc))),
+    }
+}
+
+fn change_to(alloc: Global, path: &RelPath, before: &[u8], after: Bytes) -> Result<Changes, Memory>
     ensures { IfOk result (λ changes. changes ≡ change_of path.now before.now after) }
 {
     let mut changes = Vec::new(alloc);

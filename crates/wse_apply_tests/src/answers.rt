@@ -22,7 +22,8 @@ const SKIPS: &str = "abort | | | create p; ?create q; delete r | 2 not found, p:
 abort | a=t | | edit a - ?0=x 1=y ?2=z; ?edit b - ?0=x | done, a:t>ty, a+1, 0.0 0.2 1
 abort | | | edit a - ?0=x; ?delete b | 0 not found,,, 0.0 1
 abort | d/x=t | | edit d - ?0=x | 0 is a folder,,, 0.0
-abort | a=t | | edit a 3 ?0=x | 0 version 1 3,,, 0.0";
+abort | a=t | | edit a 3 ?0=x | 0 version 1 3,,, 0.0
+abort | a=t% | | edit a 1 ?0=x | 0 not text 1 0,,, 0.0";
 
 const TEXTS: &str =
     "abort | a.txt=t | | edit a.txt - 0=1; edit a.txt - 0=2 | done, a.txt:t>21t, a.txt+1,
@@ -30,7 +31,10 @@ abort utf-16 | a.txt=a😀b$ | | edit a.txt - 3=X | done, a.txt:a😀b$>a😀Xb$
 abort utf-8 | a.txt=a😀b$ | | edit a.txt - 5=X | done, a.txt:a😀b$>a😀Xb$, a.txt+1,
 abort utf-32 | a.txt=a😀b$ | | edit a.txt - 2=X | done, a.txt:a😀b$>a😀Xb$, a.txt+1,
 abort utf-16 | a.txt=a😀b$ | | edit a.txt - 2=X | 0 inside 0 1,,,
+abort | a=t% | | edit a - 0=x | 0 not text 1 0,,,
+abort | a=t% | | edit a 7 0=x | 0 version 1 7,,,
 abort | a=abc | | edit a - 1-2=Z 1=1 | 0 overlap 0 1,,,
+abort | a=abc | | edit a - 0-1=a 2=q 2-3=; edit a - 0-1=a | done, a:abc>abq, a+1,
 abort | a=abc | | edit a - ?0=q 1-3=Z 2=1 | 0 overlap 1 2,,, 0.0
 abort | a=abc | | create b; edit b 0 0=q; rename b c; edit c 0 0=r | done, c:->rq, c+1,
 abort | a=abc | | edit a 1 0=q; edit a 1 0=r | done, a:abc>rqabc, a+1,
@@ -42,7 +46,8 @@ abort | a=t | a | edit a 7 0=x | 0 version 1 7,,,
 abort | a=t | a | rename a a | done,,,
 abort | d/x=t d/y=t | d/y e/x e/y z | rename d e | 0 locked d/y e/x e/y,,,
 abort | a=t b=t | b | rename a b overwrite | done, a:t>-, a+1,
-abort | a=t b=t | a b | rename a b overwrite | 0 locked a,,,";
+abort | a=t b=t | a b | rename a b overwrite | 0 locked a,,,
+abort | d/x=t | d/x | rename d z/z/z/z/z/z/z/z/z/z/z/z/z/z/z/z/z/z/z/z/z/z/z/z/z/z/z/z/z/z/z/z/z/z/z/z/z/z/z/z/z/z/z/z/z/z/z/z/z/z/z/z/z/z/z/z/z/z/z/z/z/z/z/z | 0 path limit d/x,,,";
 
 const LIMITS: &str =
     "abort file-bytes=2 | | | create a; edit a - 0=abc | 1 limit file bytes 3, a:->, a+1,

@@ -28,6 +28,17 @@ fn with_line_ends(alloc: Global, text: &str) -> Result<String, Memory> {
     Ok(lines)
 }
 
+/// The bytes of the text, where `$` stands for a line end and `%` for a byte that no text has.
+fn bytes_of(alloc: Global, text: &str) -> Result<Bytes, Memory> {
+    let mut bytes = with_line_ends(alloc, text)?.as_bytes().to_vec(alloc)?;
+    for byte in &mut bytes {
+        if *byte == b'%' {
+            *byte = 255;
+        }
+    }
+    Ok(Bytes::new(bytes))
+}
+
 fn put(tree: &mut Tree, path: RelPath, bytes: Bytes) -> Result<(), Memory> {
     if tree.get(&path).is_some() || tree.fits(&path) {
         tree.put(path, bytes)?;
@@ -40,8 +51,7 @@ pub fn tree_of(alloc: Global, files: &str) -> Result<Tree, Fail> {
     let mut tree = Tree::new(alloc);
     for file in files.split(' ') {
         if let Some((name, text)) = file.split_once('=') {
-            let bytes = with_line_ends(alloc, text)?.as_bytes().to_vec(alloc)?;
-            put(&mut tree, path(alloc, name)?, Bytes::new(bytes))?;
+            put(&mut tree, path(alloc, name)?, bytes_of(alloc, text)?)?;
         }
     }
     Ok(tree)

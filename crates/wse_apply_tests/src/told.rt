@@ -1,17 +1,21 @@
 // What an edit does, as text.
 use std::alloc::Global;
 use wse_apply::{Performed, Reason, Skip};
-use wse_path::{Bytes, Files, Hit, Memory, Which};
+use wse_path::{Bytes, Files, Hit, Memory, RelPath, Which};
 use wse_resource::OpRefused;
 
-fn push_content(text: &mut String, content: &Option<Bytes>) -> Result<(), Memory> {
+/// A content that isn't there is `-`, and one that is no text `?`.
+fn text_or_mark(content: &Option<Bytes>) -> &str {
     match content {
-        None => text.push('-')?,
-        Some(bytes) => {
-            for line in str::from_utf8(bytes.as_slice()).unwrap_or("?").chars() {
-                text.push(if line == '\n' { '$' } else { line })?;
-            }
-        }
+        Some(bytes) => str::from_utf8(bytes.as_slice()).unwrap_or("?"),
+        None => "-",
+    }
+}
+
+/// The content with `$` for line ends.
+fn push_content(text: &mut String, content: &Option<Bytes>) -> Result<(), Memory> {
+    for point in text_or_mark(content).chars() {
+        text.push(if point == '\n' { '$' } else { point })?;
     }
     Ok(())
 }
@@ -43,6 +47,23 @@ fn name_of(why: &OpRefused) -> &'static str {
     }
 }
 
+fn path_of(why: &OpRefused) -> Option<&RelPath> {
+    match why {
+        OpRefused::Beneath { file } => Some(file),
+        OpRefused::PathLimit { from } => Some(from),
+        _ => None,
+    }
+}
+
+fn push_refused(alloc: Global, text: &mut String, why: &OpRefused) -> Result<(), Memory> {
+    text.push_str(name_of(why))?;
+    if let Some(path) = path_of(why) {
+        text.push(' ')?;
+        text.push_str(path.text(alloc)?.as_str())?;
+    }
+    Ok(())
+}
+
 fn limit_name(which: Which) -> &'static str {
     match which {
         Which::Files => "files",
@@ -69,7 +90,7 @@ fn push_pair(alloc: Global, text: &mut String, name: &str, a: u64, b: u64) -> Re
 
 fn push_reason(alloc: Global, text: &mut String, why: &Reason) -> Result<(), Memory> {
     match why {
-        Reason::Op(why) => Ok(text.push_str(name_of(why))?),
+        Reason::Op(why) => push_refused(alloc, text, why),
         Reason::NotText { at } => push_pair(alloc, text, "not text", *at as u64, 0),
         Reason::Inside { edit, char_start } => {
             push_pair(alloc, text, "inside", *edit, *char_start as u64)
@@ -141,17 +162,26 @@ fn push_bumps(alloc: Global, text: &mut String, done: &Performed) -> Result<(), 
     Ok(())
 }
 
+fn push_skips(alloc: Global, text: &mut String, done: &Performed) -> Result<(), Memory> {
+    for skip in done.skipped.as_slice() {
+        push_skip(alloc, text, skip)?;
+    }
+    Ok(())
+}
+
+fn push_told(alloc: Global, text: &mut String, done: &Performed) -> Result<(), Memory> {
+    push_failed(alloc, text, &done.failed)?;
+    text.push(',')?;
+    push_changes(alloc, text, done)?;
+    text.push(',')?;
+    push_bumps(alloc, text, done)?;
+    text.push(',')?;
+    push_skips(alloc, text, done)
+}
+
 /// What failed, and then behind a comma each what changes, which versions rise, and what was left out.
 pub fn told(alloc: Global, done: &Performed) -> Result<String, Memory> {
     let mut text = String::new(alloc);
-    push_failed(alloc, &mut text, &done.failed)?;
-    text.push(',')?;
-    push_changes(alloc, &mut text, done)?;
-    text.push(',')?;
-    push_bumps(alloc, &mut text, done)?;
-    text.push(',')?;
-    for skip in done.skipped.as_slice() {
-        push_skip(alloc, &mut text, skip)?;
-    }
+    push_told(alloc, &mut text, done)?;
     Ok(text)
 }

@@ -1,4 +1,4 @@
-use Rattle.std.proofs.Common.{List, sym, ap, ◌∙◌}
+use Rattle.std.proofs.Common.{List, ap, ◌∙◌}
 use Rattle.wse_path.specs.declared.change.Change.{Change}
 use Rattle.wse_apply.specs.Stop.{stop_by}
 use Rattle.wse_apply.proofs.StopLemmas.{tried_refused, tried_done, tried_small, size_then}

@@ -1,5 +1,4 @@
-use Rattle.std.proofs.Common.{◌+◌, List, [], ◌∷◌, cond, drop, ◌∙◌}
-use Rattle.wse_path.specs.Path.{Path}
+use Rattle.std.proofs.Common.{◌+◌, [], ◌∷◌, cond, drop, ◌∙◌}
 use Rattle.wse_locks.specs.Locks.{is_held}
 use Rattle.wse_apply.specs.Stop.{held_among}
 use Rattle.wse_apply.proofs.StepLemmas.{gathered_more, gathered_all, held_next, held_end}

@@ -1,6 +1,5 @@
 use Rattle.std.proofs.Common.{List, sym, ap, subst, ◌∙◌}
 use Rattle.std.proofs.lemmas.Result.{on_ok_weaker}
-use Rattle.wse_path.specs.Tree.{Entries}
 use Rattle.wse_path.specs.Changes.{erased, stored}
 use Rattle.wse_path.specs.declared.change.Change.{Change}
 use Rattle.wse_apply.specs.Draft.{FindRoom}

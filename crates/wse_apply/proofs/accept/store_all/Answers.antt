@@ -1,6 +1,6 @@
 use Rattle.std.proofs.Common.{List, [], ◌∷◌, ◌++◌, sym, ap, subst, ◌∙◌, append_assoc}
 use Rattle.wse_path.specs.Tree.{Entries, HasRoom}
-use Rattle.wse_path.specs.Changes.{stored, stored_at}
+use Rattle.wse_path.specs.Changes.{stored_at}
 use Rattle.wse_path.specs.declared.change.Change.{Change}
 use Rattle.wse_path.proofs.ChangeLemmas.{stored_more}
 use Rattle.wse_apply.proofs.accept.store_all.Goals as goal

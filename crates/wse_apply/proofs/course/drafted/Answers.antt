@@ -1,7 +1,7 @@
-use Rattle.std.proofs.Common.{List, IfOk, IfErr, sym, ap, subst, ◌∙◌}
+use Rattle.std.proofs.Common.{List, IfOk, IfErr, sym, subst}
 use Rattle.wse_path.specs.declared.edit.What.{What}
 use Rattle.wse_path.specs.declared.position.TextEdit.{TextEdit}
-use Rattle.wse_apply.specs.Next.{text_next, resource_next, done_next}
+use Rattle.wse_apply.specs.Next.{text_next, done_next}
 use Rattle.wse_apply.specs.Draft.{IsDraftOf, IsStopOf}
 use Rattle.wse_apply.proofs.course.drafted.Goals as goal
 

@@ -1,6 +1,5 @@
-use Rattle.std.proofs.Common.{sym, ap, subst, ◌∙◌}
-use Rattle.std.proofs.lemmas.Result.{on_ok_weaker, IfErr-weaker, err_from_is_err_and}
-use Rattle.wse_apply.proofs.OperationLemmas.{skipped_next, live_stop, stays, draft_leads, accepted_next, stopped_next}
+use Rattle.std.proofs.lemmas.Result.{on_ok_weaker, IfErr-weaker}
+use Rattle.wse_apply.proofs.OperationLemmas.{skipped_next, draft_leads, accepted_next, stopped_next}
 use Rattle.wse_apply.proofs.course.step.Goals as goal
 
 pub returns-then-operation-clause-done : goal.returns-then-operation-clause-done

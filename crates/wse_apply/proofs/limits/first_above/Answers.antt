@@ -1,4 +1,4 @@
-use Rattle.std.proofs.Common.{Some, ap, ◌∙◌, arith}
+use Rattle.std.proofs.Common.{arith}
 use Rattle.wse_apply.proofs.LimitLemmas.{above_here, above_later}
 use Rattle.wse_apply.proofs.limits.first_above.Goals as goal
 

@@ -1,4 +1,4 @@
-use Rattle.std.proofs.Common.{◌≡◌, List, ap, subst, sym, ◌∙◌}
+use Rattle.std.proofs.Common.{subst, sym, ◌∙◌}
 use Rattle.wse_path.specs.Path.{Path}
 use Rattle.wse_path.specs.Tree.{put_file, HasRoom}
 use Rattle.wse_apply.proofs.PartLemmas.{copied, room_to_copy, absent_alike}

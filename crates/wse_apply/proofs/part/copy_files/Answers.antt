@@ -1,5 +1,3 @@
-use Rattle.std.proofs.Common.{List, take, take_all, subst, sym}
-use Rattle.wse_path.specs.Path.{Path}
 use Rattle.wse_apply.specs.Draft.{AgreeAt}
 use Rattle.wse_apply.proofs.PartLemmas.{among_more, among_none}
 use Rattle.wse_apply.proofs.part.copy_files.Goals as goal

@@ -1,4 +1,4 @@
-use Rattle.std.proofs.Common.{true, List, ap, subst, sym, ◌∙◌}
+use Rattle.std.proofs.Common.{List, ap, ◌∙◌}
 use Rattle.wse_path.specs.Path.{Path}
 use Rattle.wse_path.specs.Overlay.{is_among}
 use Rattle.wse_apply.proofs.PartLemmas.{near_whole}

@@ -1,7 +1,6 @@
-use Rattle.std.proofs.Common.{List, sym, ap, subst, ◌∙◌}
+use Rattle.std.proofs.Common.{List, ap, ◌∙◌}
 use Rattle.wse_path.specs.declared.change.Change.{Change}
 use Rattle.wse_path.specs.declared.edit.Operation.{Operation}
-use Rattle.wse_path.specs.Tree.{Entries}
 use Rattle.wse_path.specs.Changes.{changes_between}
 use Rattle.wse_apply.specs.Course.{failure_of, reached}
 use Rattle.wse_apply.specs.Kept.{all_edit_texts, rule_after, bumps_by}

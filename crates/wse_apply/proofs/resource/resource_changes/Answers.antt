@@ -1,4 +1,4 @@
-use Rattle.std.proofs.Common.{sym, ap, subst, ◌∙◌}
+use Rattle.std.proofs.Common.{sym, subst}
 use Rattle.wse_apply.proofs.OperationLemmas.{resource_draft, resource_refused}
 use Rattle.wse_apply.specs.Next.{resource_next}
 use Rattle.wse_apply.specs.Draft.{IsStopOf}

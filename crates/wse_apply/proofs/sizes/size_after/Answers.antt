@@ -1,4 +1,4 @@
-use Rattle.std.proofs.Common.{sym, ap, ◌∙◌}
+use Rattle.std.proofs.Common.{◌∙◌}
 use Rattle.wse_apply.specs.Sizes.{plus}
 use Rattle.wse_apply.proofs.SizeLemmas.{after_more}
 use Rattle.wse_apply.proofs.sizes.size_after.Goals as goal

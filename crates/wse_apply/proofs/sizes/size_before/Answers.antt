@@ -1,4 +1,4 @@
-use Rattle.std.proofs.Common.{sym, ap, ◌∙◌}
+use Rattle.std.proofs.Common.{◌∙◌}
 use Rattle.wse_apply.specs.Sizes.{plus}
 use Rattle.wse_apply.proofs.SizeLemmas.{before_more}
 use Rattle.wse_apply.proofs.sizes.size_before.Goals as goal

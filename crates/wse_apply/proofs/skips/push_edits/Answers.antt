@@ -1,4 +1,4 @@
-use Rattle.std.proofs.Common.{◌+◌, ◌++◌, List, drop}
+use Rattle.std.proofs.Common.{◌+◌, ◌++◌, drop}
 use Rattle.wse_apply.specs.Skips.{skips_edit, skipped_edits}
 use Rattle.wse_apply.proofs.StepLemmas.{gathered_more, gathered_all, edits_next, edits_end}
 use Rattle.wse_apply.proofs.skips.push_edits.Goals as goal

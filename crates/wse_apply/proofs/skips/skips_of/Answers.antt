@@ -1,4 +1,4 @@
-use Rattle.std.proofs.Common.{◌+◌, List, drop, ◌∙◌}
+use Rattle.std.proofs.Common.{◌+◌, drop, ◌∙◌}
 use Rattle.wse_apply.specs.Skips.{skips_at, skips_from}
 use Rattle.wse_apply.proofs.StepLemmas.{gathered_more, gathered_all, skips_next, skips_end}
 use Rattle.wse_apply.proofs.skips.skips_of.Goals as goal

@@ -1,12 +1,13 @@
-use Rattle.std.proofs.Common.{◌≡◌, ℕ, List, IfOk, IfErr, sym, ap, subst, ◌∙◌}
+use Rattle.std.proofs.Common.{◌≡◌, ℕ, List, IfOk, subst}
 use Rattle.std.proofs.lemmas.Result.{on_ok_weaker, IfErr-weaker}
+use Rattle.std.specs.Option.{unwrap_or}
 use Rattle.wse_edits.specs.Edited.{edited}
 use Rattle.wse_apply.proofs.TextLemmas.{text_told, text_clear, no_text}
 use Rattle.wse_apply.proofs.text.edited.Goals as goal
 
 pub returns-in-Ok-clause-after : goal.returns-in-Ok-clause-after
 returns-in-Ok-clause-after c =
-    subst (λ (b : List ℕ). IfOk c.edited_text.result (λ after. after ≡ edited b c.args.enc c.args.edits.now)) c.in-Ok.ensures.same c.edited_text.ensures.after
+    subst (λ (b : List ℕ). IfOk c.edited_text.result (λ after. unwrap_or after b ≡ edited b c.args.enc c.args.edits.now)) c.in-Ok.ensures.same c.edited_text.ensures.after
 
 pub returns-in-Ok-clause-ok : goal.returns-in-Ok-clause-ok
 returns-in-Ok-clause-ok c =

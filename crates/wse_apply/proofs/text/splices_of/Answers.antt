@@ -1,4 +1,4 @@
-use Rattle.std.proofs.Common.{sym, ap, ◌∙◌}
+use Rattle.std.proofs.Common.{ap}
 use Rattle.wse_edits.specs.Refusal.{refusal}
 use Rattle.wse_apply.specs.Next.{edits_reason}
 use Rattle.wse_apply.proofs.TextLemmas.{told_by}
