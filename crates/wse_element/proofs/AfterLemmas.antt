@@ -1,17 +1,17 @@
 -- A list of records that fit one another fits after an effect that may come.
-use Rattle.std.proofs.Common.{◌≡◌, ℕ, ◌+◌, ◌<◌, ◌≤◌, Bool, true, false, ◌&&◌, ◌||◌, not, cond, eqb, ltb, List, [], ◌∷◌, ◌++◌, map, Option, Some, None, refl, sym, ap, subst, ◌∙◌, arith}
+use Rattle.std.proofs.Common.{◌≡◌, ℕ, ◌+◌, ◌<◌, Bool, true, false, ◌&&◌, ◌||◌, not, cond, eqb, ltb, List, [], ◌∷◌, ◌++◌, map, Option, Some, None, refl, sym, ap, subst, ◌∙◌, arith}
 use Rattle.std.specs.Prelude.{filter, find, slice_get}
 use Rattle.std.specs.List.{list_any, list_all, last_or}
 use Rattle.std.specs.Option.{option_map_or}
-use Rattle.std.proofs.lemmas.Bool.{and_from, or_parts, or_from, not-true, not_from_false, false≢true, ltb-true, lt-ltb, eqb-true, eq-eqb, ne_eqb}
+use Rattle.std.proofs.lemmas.Bool.{and_from, or_parts, or_from, not-true, not_from_false, false≢true, ltb-true, lt-ltb, eqb-true, ne_eqb}
 use Rattle.std.proofs.lemmas.Option.{none-some, same_Some}
 use Rattle.wse_path.specs.Path.{Path}
 use Rattle.wse_path.proofs.EntryLemmas.{and_parts}
-use Rattle.wse_element.specs.declared.state.PartState.TheVariants.{Live, Closed, Incompatible}
+use Rattle.wse_element.specs.declared.state.PartState.TheVariants.{Closed, Incompatible}
 use Rattle.wse_element.specs.Record.{RecordPart, Record, AreParts}
 use Rattle.wse_element.specs.Live.{is_live, is_live_at, has_live}
 use Rattle.wse_element.specs.Stacks.{live_at, past, future, closest_past, closest_future, ids, has_id, record_of}
-use Rattle.wse_element.specs.Losses.{lost_at, flushed, future_lost_at, dropped, part_invalid_at, invalid_at, invalidated}
+use Rattle.wse_element.specs.Losses.{lost_at, flushed, future_lost_at, dropped, invalid_at, invalidated}
 use Rattle.wse_element.specs.Effects.{marked_one, marked}
 use Rattle.wse_element.specs.Apart.{is_apart}
 use Rattle.wse_element.specs.Linked.{are_different, is_numbered, IsLinkedAt, IsLinked}
@@ -22,7 +22,7 @@ use Rattle.wse_element.proofs.LiveLemmas.{invalid_has_live}
 use Rattle.wse_element.proofs.PastLemmas.{ids-map}
 use Rattle.wse_element.proofs.MoveLemmas.{none_behind, eqb_back}
 use Rattle.wse_element.proofs.LinkedLemmas.{linked_flushed, linked_dropped, linked_invalidated, linked_back, linked_forward, linked_unmarked}
-use Rattle.wse_element.proofs.PushLemmas.{Follows, Found, found_in, found_passes, linked_pushed}
+use Rattle.wse_element.proofs.PushLemmas.{Follows, found_in, found_passes, linked_pushed}
 use Rattle.wse_element.proofs.ApartLemmas.{any_filter, is_apart-lost_at, is_apart-future_lost_at, is_apart-invalid_at}
 
 -- ---- ids and numbers
@@ -187,7 +187,7 @@ any_kept test kept (r ∷ records) h =
     elim (kept r) as (λ b. list_any test (cond b (r ∷ filter kept records) (filter kept records)) ≡ false) [ true ↦ or_from (test r) (list_any test (filter kept records)) parts.0 rest | false ↦ rest ]
 
 -- where the record with the id isn't live, none with the id is
-none_else : (records : List Record) (id : ℕ) (r : Record) (p : Path) → record_of records id ≡ Some r → are_different (ids records) ≡ true → is_live_at p r ≡ false → list_any (has_id id) (live_at records p) ≡ false
+pub none_else : (records : List Record) (id : ℕ) (r : Record) (p : Path) → record_of records id ≡ Some r → are_different (ids records) ≡ true → is_live_at p r ≡ false → list_any (has_id id) (live_at records p) ≡ false
 none_else [] id r p h different away = refl
 none_else (x ∷ records) id r p h different away =
     let parts = and_parts (not (list_any (λ m. eqb m x.id) (ids records))) (are_different (ids records)) different in

@@ -1,7 +1,7 @@
 -- Records that say the same of a path fit one another alike.
-use Rattle.std.proofs.Common.{◌≡◌, Bool, true, false, ◌&&◌, ◌||◌, not, cond, List, [], ◌∷◌, ◌++◌, map, Option, Some, None, refl, sym, ap, subst, ◌∙◌}
+use Rattle.std.proofs.Common.{◌≡◌, Bool, true, false, ◌&&◌, ◌||◌, not, cond, List, [], ◌∷◌, map, Option, refl, sym, ap, subst, ◌∙◌}
 use Rattle.std.specs.Prelude.{option_and_then}
-use Rattle.std.specs.List.{list_any, list_all, AllZip}
+use Rattle.std.specs.List.{list_any, AllZip}
 use Rattle.std.specs.Option.{option_map_or}
 use Rattle.wse_path.specs.Path.{Path}
 use Rattle.wse_path.specs.Changes.{is_same}
@@ -9,7 +9,7 @@ use Rattle.wse_element.specs.Content.{old_content, new_content}
 use Rattle.wse_element.specs.Record.{RecordPart, Record}
 use Rattle.wse_element.specs.Live.{live_part, is_valid_at}
 use Rattle.wse_element.specs.Stacks.{live_at}
-use Rattle.wse_element.specs.Linked.{come_first, meet_at, meets_first, neighbours_meet, IsLinkedAt}
+use Rattle.wse_element.specs.Linked.{come_first, meets_first, neighbours_meet, IsLinkedAt}
 
 -- the second has the first's part at the path, and is done like it
 pub record SameAt (p : Path) (r s : Record) : Type 0 where

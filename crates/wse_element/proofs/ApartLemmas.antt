@@ -1,5 +1,5 @@
 -- Contents that can be files of one tree still can when some of them are lost.
-use Rattle.std.proofs.Common.{◌≡◌, Bool, true, false, ◌&&◌, ◌||◌, not, cond, List, [], ◌∷◌, map, refl, sym, ap, subst, ◌∙◌}
+use Rattle.std.proofs.Common.{◌≡◌, Bool, true, false, ◌&&◌, not, cond, List, [], ◌∷◌, map, refl, sym, ap, ◌∙◌}
 use Rattle.std.specs.Prelude.{filter, is_some}
 use Rattle.std.specs.List.{list_any, list_all}
 use Rattle.std.specs.Ordering.{eq_by_cmp}
@@ -9,7 +9,7 @@ use Rattle.wse_path.specs.Path.{Path, is_under}
 use Rattle.wse_path.specs.Order.{path_cmp}
 use Rattle.wse_path.proofs.EntryLemmas.{and_parts}
 use Rattle.wse_element.specs.declared.state.PartState.{PartState}
-use Rattle.wse_element.specs.declared.state.PartState.TheVariants.{Live, Closed, Incompatible}
+use Rattle.wse_element.specs.declared.state.PartState.TheVariants.{Incompatible}
 use Rattle.wse_element.specs.declared.body.Body.{Body}
 use Rattle.wse_element.specs.Content.{Content, old_content, new_content}
 use Rattle.wse_element.specs.Record.{RecordPart, Record}

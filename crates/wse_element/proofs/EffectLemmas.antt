@@ -1,9 +1,9 @@
 -- Each effect that may come leaves a list of records that fit one another.
-use Rattle.std.proofs.Common.{◌≡◌, ℕ, ◌+◌, ◌<◌, Bool, true, false, ◌&&◌, eqb, List, refl, sym, ap, subst, ◌∙◌, arith}
+use Rattle.std.proofs.Common.{◌≡◌, ℕ, ◌+◌, ◌<◌, true, false, eqb, List, sym, subst, arith}
 use Rattle.std.specs.Bool.{⊤}
 use Rattle.std.specs.List.{AllByRecursion}
 use Rattle.std.specs.Option.{option_map_or}
-use Rattle.std.proofs.lemmas.Bool.{eqb-true, false≢true}
+use Rattle.std.proofs.lemmas.Bool.{eqb-true}
 use Rattle.wse_path.specs.Path.{Path}
 use Rattle.wse_path.proofs.EntryLemmas.{and_parts}
 use Rattle.wse_element.specs.declared.state.PartState.{PartState}
@@ -12,7 +12,6 @@ use Rattle.wse_element.specs.declared.effect.Effect.{Effect}
 use Rattle.wse_element.specs.declared.effect.Effect.TheVariants.{Push, MoveBack, MoveForward, Split, Drop, Invalidate, Bump, Set}
 use Rattle.wse_element.specs.Record.{Record, AreParts}
 use Rattle.wse_element.specs.Stacks.{record_of}
-use Rattle.wse_element.specs.Losses.{flushed, dropped}
 use Rattle.wse_element.specs.State.{StacksState}
 use Rattle.wse_element.specs.Effects.{lost_for, after, ids_taken}
 use Rattle.wse_element.specs.Split.{split}

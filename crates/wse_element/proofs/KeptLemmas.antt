@@ -1,8 +1,7 @@
 -- Each effect leaves records that have parts whose paths rise.
-use Rattle.std.proofs.Common.{◌≡◌, ℕ, ◌+◌, Bool, true, false, ◌&&◌, cond, List, [], ◌∷◌, ◌++◌, map, refl, sym, ap, subst, ◌∙◌}
+use Rattle.std.proofs.Common.{◌≡◌, ℕ, ◌+◌, Bool, true, false, ◌&&◌, cond, List, [], ◌∷◌, ◌++◌, map, refl, ◌∙◌}
 use Rattle.std.specs.Prelude.{filter}
-use Rattle.std.specs.Bool.{⊤}
-use Rattle.std.specs.List.{AllByRecursion, enumerate_from}
+use Rattle.std.specs.List.{AllByRecursion}
 use Rattle.std.specs.FinMap.{is_sorted}
 use Rattle.std.specs.FinMap.Entries.{below_all}
 use Rattle.std.specs.Ordering.{is_lt}
@@ -16,7 +15,7 @@ use Rattle.wse_element.specs.Record.{RecordPart, Record, by_path, AreParts}
 use Rattle.wse_element.specs.Live.{is_live_part_at, live_parts, has_live}
 use Rattle.wse_element.specs.Stacks.{has_id}
 use Rattle.wse_element.specs.Losses.{lost, part_lost_at, lost_at, future_lost_at, part_invalid_at, invalid_at}
-use Rattle.wse_element.specs.Split.{piece, pieces, split_one, split}
+use Rattle.wse_element.specs.Split.{pieces, split_one, split}
 use Rattle.wse_element.specs.Effects.{marked_one, lost_for, records_after}
 use Rattle.wse_element.proofs.PieceLemmas.{numbered_pieces}
 use Rattle.wse_element.proofs.EffectLemmas.{PushesParts}
@@ -47,6 +46,12 @@ lost_path q state part = elim (is_live_part_at q part) as (λ b. (cond b (lost s
 invalid_path : (q : Path) (part : RecordPart) → (part_invalid_at q part).path ≡ part.path
 invalid_path q part = elim (is_live_part_at q part) as (λ b. (cond b (record part { valid = false }) part).path ≡ part.path) [ true ↦ refl | false ↦ refl ]
 
+pub parts_lost : (q : Path) (state : PartState) (parts : List RecordPart) → AreParts parts → AreParts (map (part_lost_at q state) parts)
+parts_lost q state = parts_map (part_lost_at q state) (lost_path q state)
+
+pub parts_invalid : (q : Path) (parts : List RecordPart) → AreParts parts → AreParts (map (part_invalid_at q) parts)
+parts_invalid q = parts_map (part_invalid_at q) (invalid_path q)
+
 -- ---- lists of such records
 
 module _ (f : Record → Record) (keeps : (r : Record) → HasParts r → HasParts (f r)) where
@@ -75,7 +80,7 @@ all_split id first (r ∷ records) h =
     (all_split id first records h.1)
 
 lost_keeps : (q : Path) (state : PartState) (r : Record) → HasParts r → HasParts (lost_at q state r)
-lost_keeps q state r h = parts_map (part_lost_at q state) (lost_path q state) r.parts h
+lost_keeps q state r h = parts_lost q state r.parts h
 
 dropped_keeps : (q : Path) (r : Record) → HasParts r → HasParts (future_lost_at q r)
 dropped_keeps q r h = elim r.done as (λ b. HasParts (cond b r (lost_at q Incompatible r))) [ true ↦ h | false ↦ lost_keeps q Incompatible r h ]
@@ -94,6 +99,6 @@ parts_after records (MoveBack id) h parts = all_map (marked_one id false) (marke
 parts_after records (MoveForward id) h parts = all_map (marked_one id true) (marked_keeps id true) records h
 parts_after records (Split id first) h parts = all_split id first records h
 parts_after records (Drop path reason) h parts = all_lost path reason records h
-parts_after records (Invalidate path) h parts = all_map (invalid_at path) (λ r k. parts_map (part_invalid_at path) (invalid_path path) r.parts k) records h
+parts_after records (Invalidate path) h parts = all_map (invalid_at path) (λ r k. parts_invalid path r.parts k) records h
 parts_after records (Bump path by) h parts = h
 parts_after records (Set path content) h parts = h

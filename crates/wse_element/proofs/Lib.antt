@@ -16,3 +16,4 @@ pub mod SplitAfterLemmas
 pub mod EffectLemmas
 pub mod IdLemmas
 pub mod KeptLemmas
+pub mod StepLemmas

@@ -1,8 +1,7 @@
 -- Records that fit one another fit after an effect that may come.
-use Rattle.std.proofs.Common.{◌≡◌, ℕ, Bool, true, false, ◌&&◌, ◌||◌, not, cond, List, [], ◌∷◌, ◌++◌, map, Option, Some, None, refl, sym, ap, subst, ◌∙◌}
-use Rattle.std.specs.Prelude.{filter, option_map, is_some}
+use Rattle.std.proofs.Common.{◌≡◌, ℕ, Bool, true, false, ◌&&◌, ◌||◌, not, cond, List, [], ◌∷◌, ◌++◌, map, refl, sym, ap, subst, ◌∙◌}
+use Rattle.std.specs.Prelude.{is_some}
 use Rattle.std.specs.List.{list_any, list_all, AllZip}
-use Rattle.std.specs.Option.{option_map_or}
 use Rattle.std.specs.Ordering.{eq_by_cmp}
 use Rattle.std.proofs.lemmas.Bool.{and_from, or_parts, or_from, not-true}
 use Rattle.std.proofs.lemmas.List.{append_assoc, map-id}
@@ -11,19 +10,18 @@ use Rattle.wse_path.specs.Order.{path_cmp}
 use Rattle.wse_path.specs.Changes.{is_same}
 use Rattle.wse_path.proofs.EntryLemmas.{and_parts}
 use Rattle.wse_path.proofs.PathOrder.{same_path}
-use Rattle.wse_element.specs.declared.state.PartState.{PartState}
-use Rattle.wse_element.specs.declared.state.PartState.TheVariants.{Live, Closed, Incompatible}
-use Rattle.wse_element.specs.Record.{RecordPart, Record}
-use Rattle.wse_element.specs.Live.{is_live_part_at, live_part, is_live_at, is_valid_at, old_at, new_at}
+use Rattle.wse_element.specs.declared.state.PartState.TheVariants.{Closed, Incompatible}
+use Rattle.wse_element.specs.Record.{Record}
+use Rattle.wse_element.specs.Live.{live_part, is_live_at, is_valid_at, old_at, new_at}
 use Rattle.wse_element.specs.Stacks.{live_at, past, future, ids, has_id}
 use Rattle.wse_element.specs.Effects.{marked}
-use Rattle.wse_element.specs.Losses.{part_invalid_at, lost_at, flushed, future_lost_at, dropped, invalid_at, invalidated}
+use Rattle.wse_element.specs.Losses.{lost_at, flushed, future_lost_at, dropped, invalid_at, invalidated}
 use Rattle.wse_element.specs.Linked.{are_different, come_first, meets_first, neighbours_meet, IsLinkedAt}
 use Rattle.wse_element.proofs.ListLemmas.{filter-map, come_first-append, any_from_all}
-use Rattle.wse_element.proofs.LiveLemmas.{eq_itself, live_part-invalid_at, live_part-invalid_at_other, invalid_there, live_part-lost_at_same, live_part-lost_at_other}
-use Rattle.wse_element.proofs.PastLemmas.{past_and_future, live_at_invalidated, live_at_without_dead, live_at_flushed_same, live_at_flushed_other, live_at_dropped_other, done_stay, past_done, dropped_done, map_none}
+use Rattle.wse_element.proofs.LiveLemmas.{live_part-invalid_at_other, invalid_there, live_part-lost_at_same, live_part-lost_at_other}
+use Rattle.wse_element.proofs.PastLemmas.{past_and_future, live_at_invalidated, live_at_without_dead, live_at_flushed_same, live_at_flushed_other, live_at_dropped_other, done_stay, past_done, dropped_done}
 use Rattle.wse_element.proofs.MoveLemmas.{with_done, moved_back, moved_forward, live_at_marked_other, future_undone}
-use Rattle.wse_element.proofs.AlikeLemmas.{SameAt, SamePart, linked_map, invalid_alike, neighbours_alike}
+use Rattle.wse_element.proofs.AlikeLemmas.{SamePart, linked_map, invalid_alike, neighbours_alike}
 
 -- two paths are one, or they aren't
 pub by_paths : (p q : Path) (P : Path → Type 0) → P q → (eq_by_cmp path_cmp p q ≡ false → P p) → P p

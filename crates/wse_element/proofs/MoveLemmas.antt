@@ -1,5 +1,5 @@
 -- Past and future of a path after a move: the closest of the one becomes the closest of the other.
-use Rattle.std.proofs.Common.{◌≡◌, ℕ, Bool, true, false, ◌&&◌, ◌||◌, not, cond, eqb, List, [], ◌∷◌, ◌++◌, map, refl, sym, ap, subst, ◌∙◌}
+use Rattle.std.proofs.Common.{◌≡◌, ℕ, Bool, true, false, ◌&&◌, not, cond, eqb, List, [], ◌∷◌, ◌++◌, map, refl, sym, ap, ◌∙◌}
 use Rattle.std.specs.Prelude.{filter}
 use Rattle.std.specs.List.{list_any, list_all}
 use Rattle.std.proofs.lemmas.Bool.{or_parts, or_from, not-true, eqb-true, eq-eqb, false_from_ne_true, both_ways}
@@ -12,7 +12,7 @@ use Rattle.wse_element.specs.Live.{is_live_at}
 use Rattle.wse_element.specs.Stacks.{live_at, past, future, ids, has_id}
 use Rattle.wse_element.specs.Effects.{marked_one, marked}
 use Rattle.wse_element.specs.Linked.{are_different, come_first}
-use Rattle.wse_element.proofs.ListLemmas.{filter-map, filter_all, filter_none, filter_others, filter_passes, any_from_all}
+use Rattle.wse_element.proofs.ListLemmas.{filter-map, filter_all, filter_none, filter_passes, any_from_all}
 use Rattle.wse_element.proofs.PastLemmas.{past-live_at, future-live_at, past_and_future, past_done}
 
 -- the record with the mark

@@ -1,16 +1,14 @@
 -- Contents, parts and weights as the code tests and counts them.
-use Rattle.std.proofs.Common.{◌≡◌, ◌≢◌, ℕ, ◌+◌, ◌-◌, ◌^◌, min, Bool, true, false, ◌&&◌, not, eqb, List, [], ◌∷◌, length, refl, sym, ap, subst, ◌∙◌, arith}
+use Rattle.std.proofs.Common.{◌≡◌, ◌≢◌, ℕ, ◌+◌, ◌-◌, ◌^◌, min, Bool, true, false, not, refl, sym, subst, ◌∙◌, arith}
 use Rattle.std.specs.Prelude.{◌↔◌, IsTrue}
-use Rattle.std.specs.FinMap.{is_sorted}
 use Rattle.std.proofs.lemmas.Bool.{false≢true}
-use Rattle.wse_path.specs.Order.{path_cmp}
 use Rattle.wse_path.specs.Changes.{is_same}
 use Rattle.wse_path.proofs.ChangeLemmas.{same_content}
 use Rattle.wse_path.proofs.GatheredLemmas.{is_same_itself}
 use Rattle.wse_element.specs.declared.state.PartState.{PartState}
 use Rattle.wse_element.specs.declared.state.PartState.TheVariants.{Live, Closed, Incompatible}
 use Rattle.wse_element.specs.Content.{Content, no_contents}
-use Rattle.wse_element.specs.Record.{RecordPart, IsBodyOf, by_path, AreParts}
+use Rattle.wse_element.specs.Record.{IsBodyOf}
 use Rattle.wse_element.specs.Live.{is_live}
 
 -- a test for equal contents tells those that differ

@@ -1,23 +1,20 @@
 -- Past and future of a path after each effect, told by those before it.
-use Rattle.std.proofs.Common.{◌≡◌, ℕ, Bool, true, false, ◌&&◌, ◌||◌, not, cond, eqb, List, [], ◌∷◌, ◌++◌, map, Option, Some, None, refl, sym, ap, subst, ◌∙◌}
+use Rattle.std.proofs.Common.{◌≡◌, Bool, true, false, ◌&&◌, not, cond, List, [], ◌∷◌, ◌++◌, map, refl, sym, ap, ◌∙◌}
 use Rattle.std.specs.Prelude.{filter, is_some}
-use Rattle.std.specs.List.{list_any, list_all}
+use Rattle.std.specs.List.{list_all}
 use Rattle.std.specs.Ordering.{eq_by_cmp}
-use Rattle.std.proofs.lemmas.Bool.{or_parts, and_cases, not-true}
-use Rattle.std.proofs.lemmas.List.{append_assoc}
 use Rattle.std.proofs.lemmas.List.Elements.{filter-append, filter_agree}
 use Rattle.wse_path.specs.Path.{Path}
 use Rattle.wse_path.specs.Order.{path_cmp}
 use Rattle.wse_path.proofs.EntryLemmas.{and_parts}
 use Rattle.wse_element.specs.declared.state.PartState.{PartState}
-use Rattle.wse_element.specs.declared.state.PartState.TheVariants.{Live, Closed, Incompatible}
-use Rattle.wse_element.specs.Record.{RecordPart, Record}
+use Rattle.wse_element.specs.declared.state.PartState.TheVariants.{Closed, Incompatible}
+use Rattle.wse_element.specs.Record.{Record}
 use Rattle.wse_element.specs.Live.{is_live, is_live_at, has_live}
-use Rattle.wse_element.specs.Stacks.{live_at, past, future, ids, has_id}
+use Rattle.wse_element.specs.Stacks.{live_at, past, future, ids}
 use Rattle.wse_element.specs.Losses.{lost_at, without_dead, flushed, future_lost_at, dropped, invalid_at, invalidated}
-use Rattle.wse_element.specs.Effects.{marked_one, marked}
-use Rattle.wse_element.specs.Linked.{are_different, come_first}
-use Rattle.wse_element.proofs.ListLemmas.{filter-map, filter-filter, filter_all, filter_none, filter_others, filter_passes, list_all_weaker, come_first_parts, any_from_all}
+use Rattle.wse_element.specs.Linked.{come_first}
+use Rattle.wse_element.proofs.ListLemmas.{filter-map, filter-filter, filter_passes, come_first_parts}
 use Rattle.wse_element.proofs.LiveLemmas.{live_somewhere, live-invalid_at, live_part-lost_at_same, live_part-lost_at_other}
 
 -- ---- both are parts of the records that are live at the path

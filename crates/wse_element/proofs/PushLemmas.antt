@@ -1,10 +1,10 @@
 -- Records that fit one another fit with a new record that may be pushed.
-use Rattle.std.proofs.Common.{◌≡◌, ℕ, suc, ◌+◌, ◌<◌, ◌≤◌, Bool, true, false, ◌&&◌, ◌||◌, not, cond, eqb, ltb, List, [], ◌∷◌, ◌++◌, map, Option, Some, None, refl, sym, ap, subst, ◌∙◌, arith}
-use Rattle.std.specs.Prelude.{filter, find, is_some, option_and_then, slice_get}
-use Rattle.std.specs.List.{list_any, list_all, last_or}
+use Rattle.std.proofs.Common.{◌≡◌, Bool, true, false, ◌&&◌, not, cond, List, [], ◌∷◌, ◌++◌, Option, Some, None, refl, sym, ap, subst, ◌∙◌}
+use Rattle.std.specs.Prelude.{is_some, option_and_then, slice_get}
+use Rattle.std.specs.List.{list_all, last_or}
 use Rattle.std.specs.Option.{option_map_or}
 use Rattle.std.specs.Ordering.{eq_by_cmp}
-use Rattle.std.proofs.lemmas.Bool.{and_from, or_parts, not-true, false≢true}
+use Rattle.std.proofs.lemmas.Bool.{not-true, false≢true}
 use Rattle.std.proofs.lemmas.List.{append-nil}
 use Rattle.wse_path.specs.Path.{Path}
 use Rattle.wse_path.specs.Order.{path_cmp}
@@ -16,7 +16,7 @@ use Rattle.wse_path.proofs.GatheredLemmas.{is_same_itself}
 use Rattle.wse_element.specs.Content.{Content, old_content}
 use Rattle.wse_element.specs.Record.{RecordPart, Record}
 use Rattle.wse_element.specs.Live.{is_live, is_live_part_at, live_part, is_live_at, is_valid_at, old_at, new_at}
-use Rattle.wse_element.specs.Stacks.{live_at, past, future, closest_past, closest_future, ids}
+use Rattle.wse_element.specs.Stacks.{live_at, past, future, closest_past}
 use Rattle.wse_element.specs.Linked.{come_first, meet_at, meets_first, neighbours_meet, is_left_by, IsLinkedAt}
 use Rattle.wse_element.specs.Applicable.{is_whole, has_future, follows_past}
 use Rattle.wse_element.proofs.ListLemmas.{find_passes, find_among, come_first_push}

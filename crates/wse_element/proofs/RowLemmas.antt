@@ -4,7 +4,6 @@ use Rattle.wse_path.specs.Path.{Path}
 use Rattle.wse_path.specs.Tree.{Entries}
 use Rattle.wse_element.specs.declared.state.PartState.TheVariants.{Live, Closed, Incompatible}
 use Rattle.wse_element.specs.declared.body.Body.TheVariants.{Whole}
-use Rattle.wse_element.specs.declared.effect.Effect.{Effect}
 use Rattle.wse_element.specs.declared.effect.Effect.TheVariants.{Push, MoveBack, MoveForward, Split, Drop, Invalidate, Bump, Set}
 use Rattle.wse_element.specs.Content.{Content}
 use Rattle.wse_element.specs.Record.{RecordPart, Record}

@@ -1,6 +1,6 @@
 -- A list of records that fit one another fits after a split.
-use Rattle.std.proofs.Common.{◌≡◌, ℕ, suc, ◌+◌, ◌<◌, ◌≤◌, Bool, true, false, ◌&&◌, ◌||◌, not, cond, eqb, ltb, List, [], ◌∷◌, ◌++◌, map, length, take, Option, Some, None, refl, sym, ap, subst, ◌∙◌, arith}
-use Rattle.std.specs.Prelude.{filter, find, is_some}
+use Rattle.std.proofs.Common.{◌≡◌, ℕ, ◌+◌, ◌<◌, ◌≤◌, Bool, true, false, ◌&&◌, ◌||◌, not, cond, eqb, ltb, List, [], ◌∷◌, ◌++◌, map, length, take, Some, refl, ap, subst, ◌∙◌, arith}
+use Rattle.std.specs.Prelude.{filter, is_some}
 use Rattle.std.specs.List.{list_any, list_all, AllByRecursion}
 use Rattle.std.specs.Option.{option_map_or}
 use Rattle.std.specs.Str.{bytes_eq}
@@ -17,7 +17,7 @@ use Rattle.wse_element.specs.Apart.{are_apart, is_apart}
 use Rattle.wse_element.specs.Linked.{are_different, is_numbered, IsLinked}
 use Rattle.wse_element.proofs.ListLemmas.{filter_passes, list_all_weaker, list_all-append, list_any-append}
 use Rattle.wse_element.proofs.MoveLemmas.{none_behind}
-use Rattle.wse_element.proofs.AfterLemmas.{HasNumbers, numbers_of, numbered_from, numbered_more}
+use Rattle.wse_element.proofs.AfterLemmas.{numbers_of, numbered_from, numbered_more}
 use Rattle.wse_element.proofs.PieceLemmas.{numbered_pieces, linked_split}
 
 -- ---- ids

@@ -2,8 +2,8 @@
 use Rattle.std.specs.Prelude.{Bool, not, ◌&&◌, List, map, filter, is_some}
 use Rattle.std.specs.List.{list_any, list_all}
 use Rattle.wse_path.specs.Path.{Path, is_under}
-use Rattle.wse_element.specs.Content.{Content, old_content, new_content}
-use Rattle.wse_element.specs.Record.{RecordPart, Record}
+use Rattle.wse_element.specs.Content.{old_content, new_content}
+use Rattle.wse_element.specs.Record.{Record}
 use Rattle.wse_element.specs.Live.{live_parts}
 
 -- No path is under another.

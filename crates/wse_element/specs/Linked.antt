@@ -1,17 +1,17 @@
 -- When records fit one another, and the tree them. This project's own rule.
-use Rattle.std.specs.Prelude.{◌≡◌, ℕ, Bool, true, not, ◌&&◌, ◌==◌, nat_lt, List, [], ◌∷◌, Option, Some, None, if◌then◌else◌}
+use Rattle.std.specs.Prelude.{◌≡◌, ℕ, Bool, true, not, ◌&&◌, ◌==◌, nat_lt, List, [], ◌∷◌, if◌then◌else◌}
 use Rattle.std.specs.List.{list_any, list_all}
 use Rattle.std.specs.Option.{option_map_or}
 use Rattle.wse_path.specs.Path.{Path}
 use Rattle.wse_path.specs.Tree.{Entries, content, IsTree}
 use Rattle.wse_path.specs.Changes.{is_same}
 use Rattle.wse_element.specs.Content.{Content}
-use Rattle.wse_element.specs.Record.{Record, IsRecord}
+use Rattle.wse_element.specs.Record.{Record}
 use Rattle.wse_element.specs.Live.{is_valid_at, old_at, new_at, has_live}
 use Rattle.wse_element.specs.Stacks.{live_at, closest_past, closest_future, ids}
 use Rattle.wse_element.specs.Apart.{is_apart}
 use Rattle.wse_element.specs.Numbers.{is_bounded, are_versions_bounded, is_known_bounded}
-use Rattle.wse_element.specs.State.{StacksState, Kept, State, stacks_of, kept_of}
+use Rattle.wse_element.specs.State.{Kept, State, stacks_of, kept_of}
 
 -- No number stands in the list twice.
 abbrev pub are_different : List ℕ → Bool

@@ -1,8 +1,8 @@
 -- How parts stop being live, or valid: drops, flushes and invalidation. This project's own rule.
-use Rattle.std.specs.Prelude.{Bool, false, List, map, filter, if◌then◌else◌}
+use Rattle.std.specs.Prelude.{false, List, map, filter, if◌then◌else◌}
 use Rattle.wse_path.specs.Path.{Path}
 use Rattle.wse_element.specs.declared.state.PartState.{PartState}
-use Rattle.wse_element.specs.declared.state.PartState.TheVariants.{Live, Closed, Incompatible}
+use Rattle.wse_element.specs.declared.state.PartState.TheVariants.{Closed, Incompatible}
 use Rattle.wse_element.specs.Content.{no_contents}
 use Rattle.wse_element.specs.Record.{RecordPart, Record}
 use Rattle.wse_element.specs.Live.{is_live_part_at, has_live}

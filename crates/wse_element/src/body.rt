@@ -1,5 +1,5 @@
 // The contents that a part holds.
-ghost use Rattle.std.specs.Prelude.{◌≡◌, ◌≢◌, ◌↔◌, not, IsTrue, IfOk};
+ghost use Rattle.std.specs.Prelude.{◌≡◌, ◌≢◌, ◌↔◌, not, is_some, IsTrue, IfOk};
 ghost use Rattle.wse_path.specs.Changes.{is_same};
 ghost use Rattle.wse_element.specs.Content.{old_content, new_content, no_contents, content_len};
 
@@ -33,6 +33,42 @@ impl Body {
     {
         match self {
             Body::Whole { was, is } => !is_equal(was, is),
+        }
+    }
+
+    /// Whether there was a content before the command.
+    pub fn has_old(&self) -> bool
+        ensures { result ≡ is_some (old_content self.now) }
+    {
+        match self {
+            Body::Whole { was, .. } => was.is_some(),
+        }
+    }
+
+    /// Whether there was a content after the command.
+    pub fn has_new(&self) -> bool
+        ensures { result ≡ is_some (new_content self.now) }
+    {
+        match self {
+            Body::Whole { is, .. } => is.is_some(),
+        }
+    }
+
+    /// Whether the content after this command is the one before the next. Takes no memory.
+    pub fn meets(&self, next: &Body) -> bool
+        ensures { result ≡ is_same (new_content self.now) (old_content next.now) }
+    {
+        match (self, next) {
+            (Body::Whole { is, .. }, Body::Whole { was, .. }) => is_equal(is, was),
+        }
+    }
+
+    /// Whether the content before this command is the one after the command before. Takes no memory.
+    pub fn follows(&self, before: &Body) -> bool
+        ensures { result ≡ is_same (old_content self.now) (new_content before.now) }
+    {
+        match (self, before) {
+            (Body::Whole { was, .. }, Body::Whole { is, .. }) => is_equal(was, is),
         }
     }
 

@@ -1,17 +1,24 @@
 // The entries of the history.
-ghost use Rattle.std.specs.Prelude.{◌≡◌, ◌+◌, ◌^◌, ◌<◌, ◌≤◌, [], ◌∷◌, ◌++◌, ◌↔◌, true, length, IsTrue, IfOk, OnOk, if◌then◌else◌};
-ghost use Rattle.std.specs.List.{All};
+ghost use Rattle.std.specs.Prelude.{◌≡◌, ◌+◌, ◌^◌, ◌<◌, ◌≤◌, [], ◌∷◌, ◌++◌, ◌↔◌, true, false, not, ◌&&◌, length, map, is_some, IsTrue, IfOk, OnOk, if◌then◌else◌};
+ghost use Rattle.std.specs.List.{All, list_any, list_all};
+ghost use Rattle.std.specs.Option.{option_copied};
+ghost use Rattle.wse_path.specs.Path.{is_under};
 ghost use Rattle.wse_path.specs.PathMap.{capped};
+ghost use Rattle.wse_element.specs.Content.{old_content, new_content};
 ghost use Rattle.wse_element.specs.Record.{AreParts, IsRecord};
-ghost use Rattle.wse_element.specs.Live.{is_live};
+ghost use Rattle.wse_element.specs.Apart.{are_apart, old_paths, new_paths, is_apart};
+ghost use Rattle.wse_element.specs.Applicable.{is_whole};
+ghost use Rattle.wse_element.specs.Live.{is_live, live_part, is_live_at, is_valid_at, live_parts, has_live};
+ghost use Rattle.wse_element.specs.Losses.{lost_at, part_lost_at, invalid_at, part_invalid_at};
 ghost use Rattle.wse_element.specs.Split.{piece, pieces};
 ghost use Rattle.wse_element.specs.Weight.{record_weight};
 
 use crate::part::{Part, Parts};
 use crate::rise::rise;
+use crate::state::PartState;
 use std::alloc::Global;
 use std::marker::Model;
-use wse_path::{Duplicate, Items, Label, Memory};
+use wse_path::{Duplicate, Items, Label, Memory, RelPath};
 
 /// One entry of the history: what a command did to some paths. It has a part at least, and its parts stand in strictly
 /// rising path order. This project's own rule. Contracts see its fields.
@@ -22,7 +29,7 @@ pub struct Element {
     label: Label,
     splits: bool,
     done: bool,
-    parts: Parts,
+    parts: Vec<Part>,
 }
 
 /// Elements, in order of making.
@@ -33,9 +40,71 @@ impl Model for Element {
 
     ghost Value = { Record };
 
-    ghost view = { λ a. record { id = a.id; origin = a.origin; label = a.label; splits = a.splits; done = a.done; parts = a.parts } };
+    ghost view = { λ a. record { id = a.id; origin = a.origin; label = a.label; splits = a.splits; done = a.done; parts = a.parts.items } };
 
-    ghost invariant = { λ a. AreParts a.parts };
+    ghost invariant = { λ a. AreParts a.parts.items };
+}
+
+// Equal parts.
+fn copies(alloc: Global, parts: &[Part]) -> Result<Vec<Part>, Memory>
+    ensures { IfOk result (λ copy. copy.items ≡ parts.now) }
+{
+    let mut all = Vec::with_capacity(alloc, parts.len())?;
+    for part in parts {
+        all.push(part.duplicate(alloc)?)?;
+    }
+    Ok(all)
+}
+
+fn lose_each(parts: &mut [Part], path: &RelPath, state: PartState)
+    requires { is_live state ≡ false }
+    ensures { parts.new ≡ map (part_lost_at path.now state) parts.old }
+{
+    for part in parts.iter_mut() {
+        part.lose_at(path, state);
+    }
+}
+
+fn invalidate_each(parts: &mut [Part], path: &RelPath)
+    ensures { parts.new ≡ map (part_invalid_at path.now) parts.old }
+{
+    for part in parts.iter_mut() {
+        part.invalidate_at(path);
+    }
+}
+
+// Whether the path is under one at which a live part had a file.
+fn is_under_had(parts: &[Part], path: &RelPath) -> bool
+    ensures { result ≡ list_any (λ part. is_live part.state && is_some (old_content part.body) && is_under path.now part.path) parts.now }
+{
+    parts.iter().any(|part| part.is_live() && part.had_file() && path.is_under(part.path()))
+}
+
+// Whether the path is under one at which a live part left a file.
+fn is_under_left(parts: &[Part], path: &RelPath) -> bool
+    ensures { result ≡ list_any (λ part. is_live part.state && is_some (new_content part.body) && is_under path.now part.path) parts.now }
+{
+    parts.iter().any(|part| part.is_live() && part.left_file() && path.is_under(part.path()))
+}
+
+// Whether none of the files that live parts had is under another.
+fn had_apart(parts: &[Part]) -> bool
+    ensures { result ≡ list_all (λ part. not (is_live part.state && is_some (old_content part.body)
+        && list_any (λ above. is_live above.state && is_some (old_content above.body) && is_under part.path above.path) parts.now)) parts.now }
+{
+    parts.iter().all(|part| !(part.is_live()
+        && part.had_file()
+        && is_under_had(parts, part.path())))
+}
+
+// Whether none of the files that live parts left is under another.
+fn left_apart(parts: &[Part]) -> bool
+    ensures { result ≡ list_all (λ part. not (is_live part.state && is_some (new_content part.body)
+        && list_any (λ above. is_live above.state && is_some (new_content above.body) && is_under part.path above.path) parts.now)) parts.now }
+{
+    parts.iter().all(|part| !(part.is_live()
+        && part.left_file()
+        && is_under_left(parts, part.path())))
 }
 
 impl Element {
@@ -64,7 +133,7 @@ impl Element {
             label,
             splits,
             done,
-            parts,
+            parts: parts.into_vec(),
         }
     }
 
@@ -108,7 +177,97 @@ impl Element {
         ensures parts { result.now ≡ self.now.parts }
         ensures rule { AreParts self.now.parts }
     {
-        self.parts.as_slice()
+        &self.parts
+    }
+
+    /// Whether it is live at some path.
+    pub fn has_live(&self) -> bool
+        ensures { result ≡ has_live self.now }
+    {
+        self.parts.iter().any(|part| part.is_live())
+    }
+
+    /// Its live part at the path.
+    pub fn live_part(&self, path: &RelPath) -> Option<&Part>
+        ensures { option_copied result ≡ live_part path.now self.now }
+    {
+        self.parts.iter().find(|part| part.is_live_at(path))
+    }
+
+    /// Whether it is live at the path.
+    pub fn is_live_at(&self, path: &RelPath) -> bool
+        ensures { result ≡ is_live_at path.now self.now }
+    {
+        self.live_part(path).is_some()
+    }
+
+    /// Whether it is live and valid at the path.
+    pub fn is_valid_at(&self, path: &RelPath) -> bool
+        ensures { result ≡ is_valid_at path.now self.now }
+    {
+        match self.live_part(path) {
+            Some(part) => part.is_valid(),
+            None => false,
+        }
+    }
+
+    /// Whether all its parts are live and valid.
+    pub fn is_whole(&self) -> bool
+        ensures { result ≡ is_whole self.now }
+    {
+        self.parts
+            .iter()
+            .all(|part| part.is_live() && part.is_valid())
+    }
+
+    /// At how many paths it is live.
+    pub fn live_count(&self) -> usize
+        ensures { result ≡ length (live_parts self.now) }
+    {
+        self.parts.iter().filter(|part| part.is_live()).count()
+    }
+
+    fn is_old_apart(&self) -> bool
+        ensures { result ≡ are_apart (old_paths self.now) }
+    {
+        had_apart(&self.parts)
+    }
+
+    fn is_new_apart(&self) -> bool
+        ensures { result ≡ are_apart (new_paths self.now) }
+    {
+        left_apart(&self.parts)
+    }
+
+    /// Whether the contents of its live parts can be files of one tree: those from before its command, and those from
+    /// after it. Takes no memory.
+    pub fn is_apart(&self) -> bool
+        ensures { result ≡ is_apart self.now }
+    {
+        self.is_old_apart() && self.is_new_apart()
+    }
+
+    /// Says whether it is done. Takes no memory.
+    pub fn set_done(&mut self, done: bool)
+        ensures { self.new ≡ record self.old { done = done } }
+    {
+        self.done = done;
+    }
+
+    /// Takes its live part at the path, if there is one, out of what can be undone and redone. The part loses its
+    /// contents. Takes no memory.
+    pub fn lose_at(&mut self, path: &RelPath, state: PartState)
+        requires { is_live state ≡ false }
+        ensures { self.new ≡ lost_at path.now state self.old }
+    {
+        lose_each(&mut self.parts, path, state);
+    }
+
+    /// Makes its live part at the path, if there is one, invalid. Takes no memory.
+    pub fn invalidate_at(&mut self, path: &RelPath)
+        ensures { self.new ≡ invalid_at path.now self.old }
+    {
+        invalidate_each(&mut self.parts, path);
     }
 
     // The element with that id and a copy of this part alone.
@@ -125,7 +284,7 @@ impl Element {
             label,
             splits: self.splits,
             done: self.done,
-            parts: Parts::new(parts),
+            parts,
         })
     }
 
@@ -149,11 +308,9 @@ impl Element {
         Ok(())
     }
 
-    /// One element for each live part, in path order, with ids from `next_id` on. All else is as in this one.
-    pub fn split(&self, alloc: Global, next_id: u64) -> Result<Elements, Memory>
-        requires splits { self.now.splits ≡ true }
-        requires several { 2 ≤ length self.now.parts }
-        requires room { next_id + length self.now.parts < 2 ^ 64 }
+    // One element for each live part.
+    fn numbered_pieces(&self, alloc: Global, next_id: u64) -> Result<Elements, Memory>
+        requires { next_id + length self.now.parts < 2 ^ 64 }
         ensures { IfOk result (λ elements. elements ≡ pieces self.now next_id) }
     {
         let mut all = Vec::new(alloc);
@@ -163,13 +320,33 @@ impl Element {
         Ok(Elements::new(all))
     }
 
+    /// One element for each live part, in path order, with ids from `next_id` on, whether or not it may be split. All else
+    /// is as in this one.
+    pub fn pieces(&self, alloc: Global, next_id: u64) -> Result<Elements, Memory>
+        requires { next_id < 2 ^ 63 }
+        ensures { IfOk result (λ elements. elements ≡ pieces self.now next_id) }
+    {
+        let _ = &self.parts;
+        self.numbered_pieces(alloc, next_id)
+    }
+
+    /// One element for each live part, in path order, with ids from `next_id` on. All else is as in this one.
+    pub fn split(&self, alloc: Global, next_id: u64) -> Result<Elements, Memory>
+        requires splits { self.now.splits ≡ true }
+        requires several { 2 ≤ length self.now.parts }
+        requires room { next_id + length self.now.parts < 2 ^ 64 }
+        ensures { IfOk result (λ elements. elements ≡ pieces self.now next_id) }
+    {
+        self.numbered_pieces(alloc, next_id)
+    }
+
     /// What its parts count for together: each for 256, and the bytes of the label, of its path's text, and of its old and
     /// its new content. 2^64-1 where that is greater. Takes no memory.
     pub fn weight(&self) -> u64
         ensures { result ≡ capped (record_weight self.now) }
     {
         let mut sum: u64 = 0;
-        for part in self.parts.as_slice() {
+        for part in &self.parts {
             sum = sum.saturating_add(part.weight(&self.label));
         }
         sum
@@ -184,7 +361,7 @@ impl Duplicate for Element {
             label: self.label.duplicate(alloc)?,
             splits: self.splits,
             done: self.done,
-            parts: self.parts.duplicate(alloc)?,
+            parts: copies(alloc, &self.parts)?,
         })
     }
 }

@@ -1,10 +1,11 @@
 // What an element says of one path.
-ghost use Rattle.std.specs.Prelude.{◌≡◌, ◌≢◌, ◌+◌, length, false, IfOk};
+ghost use Rattle.std.specs.Prelude.{◌≡◌, ◌≢◌, ◌+◌, length, false, is_some, IfOk};
+ghost use Rattle.wse_path.specs.Changes.{is_same};
 ghost use Rattle.wse_path.specs.PathMap.{capped};
 ghost use Rattle.wse_element.specs.Content.{old_content, new_content};
 ghost use Rattle.wse_element.specs.Record.{IsBodyOf};
-ghost use Rattle.wse_element.specs.Live.{is_live};
-ghost use Rattle.wse_element.specs.Losses.{lost};
+ghost use Rattle.wse_element.specs.Live.{is_live, is_live_part_at};
+ghost use Rattle.wse_element.specs.Losses.{lost, part_lost_at, part_invalid_at};
 ghost use Rattle.wse_element.specs.Weight.{part_weight};
 
 use crate::body::Body;
@@ -75,6 +76,13 @@ impl Part {
         }
     }
 
+    /// Whether the part is live, and at the path.
+    pub fn is_live_at(&self, path: &RelPath) -> bool
+        ensures { result ≡ is_live_part_at path.now self.now }
+    {
+        path.cmp(&self.path).is_eq() && self.is_live()
+    }
+
     /// Whether its contents are still those of the path's history.
     pub fn is_valid(&self) -> bool
         ensures { result ≡ self.now.valid }
@@ -103,6 +111,34 @@ impl Part {
         self.body.new_bytes(alloc)
     }
 
+    /// Whether there was a file before the element's command.
+    pub fn had_file(&self) -> bool
+        ensures { result ≡ is_some (old_content self.now.body) }
+    {
+        self.body.has_old()
+    }
+
+    /// Whether there was a file after the element's command.
+    pub fn left_file(&self) -> bool
+        ensures { result ≡ is_some (new_content self.now.body) }
+    {
+        self.body.has_new()
+    }
+
+    /// Whether the next part found what this one left. Takes no memory.
+    pub fn meets(&self, next: &Part) -> bool
+        ensures { result ≡ is_same (new_content self.now.body) (old_content next.now.body) }
+    {
+        self.body.meets(&next.body)
+    }
+
+    /// Whether this part found what the one before left. Takes no memory.
+    pub fn follows(&self, before: &Part) -> bool
+        ensures { result ≡ is_same (old_content self.now.body) (new_content before.now.body) }
+    {
+        self.body.follows(&before.body)
+    }
+
     /// What the part counts for under this label, or 2^64-1 where that is greater. Takes no memory.
     pub fn weight(&self, label: &Label) -> u64
         ensures { result ≡ capped (part_weight label.now self.now) }
@@ -127,6 +163,25 @@ impl Part {
         ensures { self.new ≡ record self.old { valid = false } }
     {
         self.valid = false;
+    }
+
+    /// Takes the part out of what can be undone and redone, if it is live and at the path. Takes no memory.
+    pub fn lose_at(&mut self, path: &RelPath, state: PartState)
+        requires { is_live state ≡ false }
+        ensures { self.new ≡ part_lost_at path.now state self.old }
+    {
+        if self.is_live_at(path) {
+            self.lose(state);
+        }
+    }
+
+    /// Makes the part invalid, if it is live and at the path. Takes no memory.
+    pub fn invalidate_at(&mut self, path: &RelPath)
+        ensures { self.new ≡ part_invalid_at path.now self.old }
+    {
+        if self.is_live_at(path) {
+            self.invalidate();
+        }
     }
 }
 

@@ -1,0 +1,9 @@
+pub mod SearchLemmas
+pub mod ImageLemmas
+pub mod FitLemmas
+pub mod DraftLemmas
+pub mod LookLemmas
+pub mod TurnLemmas
+pub mod PathLemmas
+pub mod SeenLemmas
+pub mod PreparedLemmas

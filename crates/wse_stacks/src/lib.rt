@@ -1,0 +1,23 @@
+// The history's stacks, kept as one list of elements.
+#![tactic(auto)]
+
+mod draft;
+mod entry;
+mod fits;
+mod image;
+mod link;
+mod look;
+mod lose;
+mod may;
+mod paths;
+mod prepare;
+mod prepared;
+mod records;
+mod refused;
+mod search;
+mod stacks;
+mod touched;
+mod turned;
+
+pub use refused::{ReserveRefused, StacksRefused};
+pub use stacks::Stacks;
