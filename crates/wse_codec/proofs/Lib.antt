@@ -1,0 +1,17 @@
+pub mod FieldLemmas
+pub mod RowLemmas
+pub mod PathLemmas
+pub mod ContentLemmas
+pub mod PartLemmas
+pub mod EffectLemmas
+pub mod RecordLemmas
+pub mod StateLemmas
+pub mod SpellingLemmas
+pub mod LoopLemmas
+pub mod BodyLemmas
+pub mod ShortLemmas
+pub mod SegmentLemmas
+pub mod TextLemmas
+pub mod WrittenLemmas
+pub mod SpellableLemmas
+pub mod AnswerLemmas
