@@ -1,0 +1,11 @@
+pub mod Fronts
+pub mod Order
+pub mod Unique
+pub mod Places
+pub mod Once
+pub mod Pieces
+pub mod InOrder
+pub mod OneReading
+pub mod Finds
+pub mod EachReads
+pub mod Images

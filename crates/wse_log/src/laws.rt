@@ -1,0 +1,9 @@
+// What holds of the definitions.
+ghost use Rattle.wse_log.specs.Laws.{EachAreaReads, AreasReadOneWay};
+
+/// Each list of bytes is a journal, with one list of records and one place of the closed gate, or it has one first
+/// place where it is no journal, behind one list of records.
+pub fn an_area_reads_in_one_way()
+    ensures reads { EachAreaReads }
+    ensures once { AreasReadOneWay }
+{}
