@@ -1,5 +1,5 @@
 -- What was taken so far, and the lines that were handed out of it.
-use Rattle.std.proofs.Common.{◌≡◌, ℕ, ◌+◌, ◌-◌, ◌≤◌, Bool, true, List, [], ◌∷◌, ◌++◌, length, take, Option, IfSome, Result, Ok, refl, sym, ap, subst, ◌∙◌, ⊎_elim, arith, length-append, length-take}
+use Rattle.std.proofs.Common.{◌≡◌, ℕ, ◌+◌, ◌-◌, ◌<◌, ◌≤◌, Bool, true, List, [], ◌∷◌, ◌++◌, length, take, Option, IfSome, Result, Ok, refl, sym, ap, subst, ◌∙◌, ⊎_elim, arith, length-append, length-take}
 use Rattle.wse_io.specs.Stream.{Takes}
 use Rattle.wse_io.specs.Lines.{lines, Cuts}
 use Rattle.wse_io.specs.Reader.{Reader, Hands, is_over}
@@ -92,3 +92,11 @@ reads_none left r taken held ahead = record {
   over = λ e. let o = sym ahead ∙ e in cc;
   room = omega (arith, ap length held);
 }
+
+-- each line that is handed out leaves less to read
+pub reads_less : (left_now left_new : Option (List ℕ)) (old new : Reader) (most : ℕ) (read line : List ℕ) → old.max_input ≡ most → Hands left_now left_new old new read (Ok (Text line)) → (most + 1 - new.taken) + length new.held < (most + 1 - old.taken) + length old.held
+reads_less left_now left_new old new most read line is h =
+    let taken = h.taken in
+    let within = h.within in
+    let less = h.given.1 in
+    omega (arith, is, taken, within, less, length-append old.held (take (old.max_input - old.taken) read), take_at_most (old.max_input - old.taken) read)

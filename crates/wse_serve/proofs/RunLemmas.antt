@@ -1,163 +1,161 @@
--- How runs are made and joined.
-use Rattle.std.proofs.Common.{◌≡◌, ◌⊎◌, inl, inr, ⊎_elim, ℕ, suc, ◌+◌, ◌≤◌, List, [], ◌∷◌, ◌++◌, length, take, drop, Err, refl, sym, ap, subst, ◌∙◌, arith, length-append}
-use Rattle.std.specs.Prelude.{IsTrue}
+-- How runs of a machine are made and joined.
+use Rattle.std.proofs.Common.{◌≡◌, ◌⊎◌, inl, inr, ⊎_elim, ℕ, suc, ◌+◌, ◌≤◌, Bool, true, List, [], ◌∷◌, ◌++◌, Option, length, take, drop, refl, sym, ap, subst, ◌∙◌, arith, length-append}
 use Rattle.std.proofs.lemmas.List.{take-append-le, drop-append-le, take_all}
 use Rattle.std.proofs.Math.Seq.{take-append-add}
-use Rattle.wse_disk.specs.Calls.{Standing}
+use Rattle.wse_disk.specs.Standing.{Standing}
 use Rattle.wse_io.specs.Stream.{Piece, bytes_of, AllAt, IsPrefix}
 use Rattle.wse_io.proofs.StreamLemmas.{prefix-nil, prefix_of, prefix_behind, bytes_of-nil, bytes_of-append, within-nil, within-append, within_at, within_wider}
-use Rattle.wse_serve.specs.declared.setting.Setting.{Setting}
-use Rattle.wse_serve.specs.Machine.{State, after, transcript, state_after}
-use Rattle.wse_serve.specs.Session.{StandsFor, LeavesBetween}
-use Rattle.wse_serve.specs.Run.{IsTornByNext, HoldsFront, Ran, fault_disk, fault_of, is_disk_fault}
-use Rattle.wse_serve.specs.declared.session.Stopped.{Stopped}
-use Rattle.wse_serve.specs.declared.session.Stopped.TheVariants.{Disk, Memory}
+use Rattle.wse_serve.specs.Machine.{Machine, transcript, state_after}
+use Rattle.wse_serve.specs.Scene.{DiskAt}
+use Rattle.wse_serve.specs.Run.{IsTornByNext, HoldsFront, Ran}
 use Rattle.wse_serve.proofs.Transcript.{transcript-append, state_after-nil, state_after-one, state_after-append}
 
-torn_wider : (setting : Setting) (s : State) (xs ys : List (List ℕ)) (disk : Standing) → IsTornByNext setting s xs disk → IsTornByNext setting s (xs ++ ys) disk
-torn_wider setting s [] ys disk h = absurd h
-torn_wider setting s (x ∷ xs) ys disk h = h
+drop_behind : (xs ys : List (List ℕ)) (k : ℕ) → drop (length xs + k) (xs ++ ys) ≡ drop k ys
+drop_behind [] ys k = ap (λ n. drop n ys) (omega arith)
+drop_behind (x ∷ xs) ys k = ap (λ i. drop i (x ∷ xs ++ ys)) {x = length (x ∷ xs) + k} {y = suc (length xs + k)} (omega arith) ∙ drop_behind xs ys k
 
--- what holds a front of the first lines holds one of all
-holds_wider : (failed : Type 0) (setting : Setting) (n : ℕ) (s : State) (xs ys : List (List ℕ)) (out : List ℕ) (disk : Standing) → HoldsFront failed setting n s xs out disk → HoldsFront failed setting n s (xs ++ ys) out disk
-holds_wider failed setting n s xs ys out disk h =
-    let front = take-append-le h.front xs ys h.within in
-    record {
-      front = h.front;
-      within = omega (arith, h.within, length-append xs ys);
-      answered = subst (λ ls. IsPrefix out (transcript setting n s ls)) (sym front) h.answered;
-      left = subst (λ ls. StandsFor disk (state_after setting s ls) ⊎ (failed × IsTornByNext setting (state_after setting s ls) (drop h.front (xs ++ ys)) disk)) (sym front)
-          (⊎_elim (λ same. inl same)
-          (λ torn. inr (torn.0, subst (λ ls. IsTornByNext setting (state_after setting s (take h.front xs)) ls disk) (sym (drop-append-le h.front xs ys h.within)) (torn_wider setting (state_after setting s (take h.front xs)) (drop h.front xs) ys disk torn.1)))
-          h.left);
-    }
+module _ {S : Type 0} (m : Machine S) where
+  torn_wider : (s : S) (xs ys : List (List ℕ)) (disk : Option Standing) → IsTornByNext m s xs disk → IsTornByNext m s (xs ++ ys) disk
+  torn_wider s [] ys disk h = absurd h
+  torn_wider s (x ∷ xs) ys disk h = h
 
--- what holds a front of the second lines holds one of all, where the first are all answered
-holds_behind : (failed : Type 0) (setting : Setting) (n : ℕ) (s : State) (xs ys : List (List ℕ)) (out : List ℕ) (disk : Standing) → HoldsFront failed setting (n + length xs) (state_after setting s xs) ys out disk
-    → HoldsFront failed setting n s (xs ++ ys) (transcript setting n s xs ++ out) disk
-holds_behind failed setting n s xs ys out disk h =
-    let front : take (length xs + h.front) (xs ++ ys) ≡ xs ++ take h.front ys = take-append-add xs ys h.front in
-    let back : drop (length xs + h.front) (xs ++ ys) ≡ drop h.front ys = drop_behind xs ys h.front in
-    record {
-      front = length xs + h.front;
-      within = omega (arith, h.within, length-append xs ys);
-      answered = subst (λ ls. IsPrefix (transcript setting n s xs ++ out) (transcript setting n s ls)) (sym front)
-          (subst (λ t. IsPrefix (transcript setting n s xs ++ out) t) (sym (transcript-append setting n s xs (take h.front ys))) (prefix_behind (transcript setting n s xs) out _ h.answered));
-      left = subst (λ ls. StandsFor disk (state_after setting s ls) ⊎ (failed × IsTornByNext setting (state_after setting s ls) (drop (length xs + h.front) (xs ++ ys)) disk)) (sym front)
-          (subst (λ u. StandsFor disk u ⊎ (failed × IsTornByNext setting u (drop (length xs + h.front) (xs ++ ys)) disk)) (sym (state_after-append setting s xs (take h.front ys)))
-          (subst (λ ls. StandsFor disk (state_after setting (state_after setting s xs) (take h.front ys)) ⊎ (failed × IsTornByNext setting (state_after setting (state_after setting s xs) (take h.front ys)) ls disk)) (sym back) h.left));
-    }
-  where
-    drop_behind : (es fs : List (List ℕ)) (k : ℕ) → drop (length es + k) (es ++ fs) ≡ drop k fs
-    drop_behind [] fs k = ap (λ m. drop m fs) (omega arith)
-    drop_behind (e ∷ es) fs k = ap (λ m. drop m (e ∷ es ++ fs)) {x = length (e ∷ es) + k} {y = suc (length es + k)} (omega arith) ∙ drop_behind es fs k
+  -- what holds a front of the first lines holds one of all
+  holds_wider : (failed : Bool) (n : ℕ) (s : S) (xs ys : List (List ℕ)) (out : List ℕ) (disk : Option Standing) → HoldsFront m failed n s xs out disk → HoldsFront m failed n s (xs ++ ys) out disk
+  holds_wider failed n s xs ys out disk h =
+      let front = take-append-le h.front xs ys h.within in
+      record {
+        front = h.front;
+        within = omega (arith, h.within, length-append xs ys);
+        answered = subst (λ ls. IsPrefix out (transcript m n s ls)) (sym front) h.answered;
+        left = subst (λ ls. m.on_disk (state_after m s ls) disk ⊎ ((failed ≡ true) × IsTornByNext m (state_after m s ls) (drop h.front (xs ++ ys)) disk)) (sym front)
+            (⊎_elim (λ same. inl same)
+            (λ torn. inr (torn.0, subst (λ ls. IsTornByNext m (state_after m s (take h.front xs)) ls disk) (sym (drop-append-le h.front xs ys h.within)) (torn_wider (state_after m s (take h.front xs)) (drop h.front xs) ys disk torn.1)))
+            h.left);
+      }
 
--- the disk may have failed for another reason
-pub holds_weaker : (failed other : Type 0) (setting : Setting) (n : ℕ) (s : State) (ls : List (List ℕ)) (out : List ℕ) (disk : Standing) → (failed → other) → HoldsFront failed setting n s ls out disk → HoldsFront other setting n s ls out disk
-holds_weaker failed other setting n s ls out disk f h = record {
-  front = h.front;
-  within = h.within;
-  answered = h.answered;
-  left = ⊎_elim (λ same. inl same) (λ torn. inr (f torn.0, torn.1)) h.left;
-}
+  -- what holds a front of the second lines holds one of all, where the first are all answered
+  holds_behind : (failed : Bool) (n : ℕ) (s : S) (xs ys : List (List ℕ)) (out : List ℕ) (disk : Option Standing) → HoldsFront m failed (n + length xs) (state_after m s xs) ys out disk
+      → HoldsFront m failed n s (xs ++ ys) (transcript m n s xs ++ out) disk
+  holds_behind failed n s xs ys out disk h =
+      let front : take (length xs + h.front) (xs ++ ys) ≡ xs ++ take h.front ys = take-append-add xs ys h.front in
+      let back : drop (length xs + h.front) (xs ++ ys) ≡ drop h.front ys = drop_behind xs ys h.front in
+      record {
+        front = length xs + h.front;
+        within = omega (arith, h.within, length-append xs ys);
+        answered = subst (λ ls. IsPrefix (transcript m n s xs ++ out) (transcript m n s ls)) (sym front)
+            (subst (λ t. IsPrefix (transcript m n s xs ++ out) t) (sym (transcript-append m n s xs (take h.front ys))) (prefix_behind (transcript m n s xs) out _ h.answered));
+        left = subst (λ ls. m.on_disk (state_after m s ls) disk ⊎ ((failed ≡ true) × IsTornByNext m (state_after m s ls) (drop (length xs + h.front) (xs ++ ys)) disk)) (sym front)
+            (subst (λ u. m.on_disk u disk ⊎ ((failed ≡ true) × IsTornByNext m u (drop (length xs + h.front) (xs ++ ys)) disk)) (sym (state_after-append m s xs (take h.front ys)))
+            (subst (λ ls. m.on_disk (state_after m (state_after m s xs) (take h.front ys)) disk ⊎ ((failed ≡ true) × IsTornByNext m (state_after m (state_after m s xs) (take h.front ys)) ls disk)) (sym back) h.left));
+      }
 
--- all lines are answered, and the disk has the tree behind them
-pub holds_all : (failed : Type 0) (setting : Setting) (n : ℕ) (s : State) (ls : List (List ℕ)) (out : List ℕ) (disk : Standing) → IsPrefix out (transcript setting n s ls) → StandsFor disk (state_after setting s ls) → HoldsFront failed setting n s ls out disk
-holds_all failed setting n s ls out disk p same =
-    let all : take (length ls) ls ≡ ls = take_all (length ls) ls (omega arith) in
-    record {
-      front = length ls;
-      within = omega arith;
-      answered = subst (λ xs. IsPrefix out (transcript setting n s xs)) (sym all) p;
-      left = inl (subst (λ xs. StandsFor disk (state_after setting s xs)) (sym all) same);
-    }
+  holds_weaker : (failed other : Bool) (n : ℕ) (s : S) (ls : List (List ℕ)) (out : List ℕ) (disk : Option Standing) → (failed ≡ true → other ≡ true) → HoldsFront m failed n s ls out disk → HoldsFront m other n s ls out disk
+  holds_weaker failed other n s ls out disk f h = record {
+    front = h.front;
+    within = h.within;
+    answered = h.answered;
+    left = ⊎_elim (λ same. inl same) (λ torn. inr (f torn.0, torn.1)) h.left;
+  }
 
--- nothing is answered, and the disk has the first tree
-pub holds_none : (failed : Type 0) (setting : Setting) (n : ℕ) (s : State) (ls : List (List ℕ)) (disk : Standing) → StandsFor disk s → HoldsFront failed setting n s ls [] disk
-holds_none failed setting n s ls disk same = record {
-  front = 0;
-  within = omega arith;
-  answered = prefix-nil _;
-  left = inl (subst (λ u. StandsFor disk u) (sym (state_after-nil setting s)) same);
-}
+  -- all lines are done
+  holds_all : (failed : Bool) (n : ℕ) (s : S) (ls : List (List ℕ)) (out : List ℕ) (disk : Option Standing) → IsPrefix out (transcript m n s ls) → m.on_disk (state_after m s ls) disk → HoldsFront m failed n s ls out disk
+  holds_all failed n s ls out disk p same =
+      let all : take (length ls) ls ≡ ls = take_all (length ls) ls (omega arith) in
+      record {
+        front = length ls;
+        within = omega arith;
+        answered = subst (λ xs. IsPrefix out (transcript m n s xs)) (sym all) p;
+        left = inl (subst (λ xs. m.on_disk (state_after m s xs) disk) (sym all) same);
+      }
 
--- nothing is answered, and the disk failed in the first line
-pub holds_torn : (failed : Type 0) (setting : Setting) (n : ℕ) (s : State) (ls : List (List ℕ)) (disk : Standing) → failed → IsTornByNext setting s ls disk → HoldsFront failed setting n s ls [] disk
-holds_torn failed setting n s ls disk f torn = record {
-  front = 0;
-  within = omega arith;
-  answered = prefix-nil _;
-  left = inr (f, subst (λ u. IsTornByNext setting u ls disk) (sym (state_after-nil setting s)) torn);
-}
+  -- nothing is answered, and the disk has what the first state says
+  pub holds_none : (failed : Bool) (n : ℕ) (s : S) (ls : List (List ℕ)) (disk : Option Standing) → m.on_disk s disk → HoldsFront m failed n s ls [] disk
+  holds_none failed n s ls disk same = record {
+    front = 0;
+    within = omega arith;
+    answered = prefix-nil _;
+    left = inl (subst (λ u. m.on_disk u disk) (sym (state_after-nil m s)) same);
+  }
 
--- before the first line
-pub ran_none : (tells failed : Type 0) (moment : ℕ) (disk : Standing) (setting : Setting) (n : ℕ) (s : State) → (tells → StandsFor disk s) → Ran tells failed moment moment disk setting n s [] []
-ran_none tells failed moment disk setting n s same = record {
-  later = omega arith;
-  output = subst (λ out. IsPrefix out (transcript setting n s [])) (sym bytes_of-nil) (prefix-nil _);
-  times = within-nil _ _;
-  holds = λ told. subst (λ out. HoldsFront failed setting n s [] out disk) (sym bytes_of-nil) (holds_none failed setting n s [] disk (same told));
-}
+  -- nothing is answered, and the disk failed in the first line
+  pub holds_torn : (failed : Bool) (n : ℕ) (s : S) (ls : List (List ℕ)) (disk : Option Standing) → failed ≡ true → IsTornByNext m s ls disk → HoldsFront m failed n s ls [] disk
+  holds_torn failed n s ls disk f torn = record {
+    front = 0;
+    within = omega arith;
+    answered = prefix-nil _;
+    left = inr (f, subst (λ u. IsTornByNext m u ls disk) (sym (state_after-nil m s)) torn);
+  }
 
--- more lines behind a run that answered all of its own
-pub ran_more : (tells before failed : Type 0) (began middle ended : ℕ) (disk disk' : Standing) (setting : Setting) (n m : ℕ) (s u : State) (xs ys : List (List ℕ)) (ps qs : List Piece)
-    → Ran tells before began middle disk setting n s xs ps → bytes_of ps ≡ transcript setting n s xs → m ≡ n + length xs → u ≡ state_after setting s xs
-    → Ran tells failed middle ended disk' setting m u ys qs → Ran tells failed began ended disk' setting n s (xs ++ ys) (ps ++ qs)
-ran_more tells before failed began middle ended disk disk' setting n m s u xs ys ps qs a whole at from b' =
-    let b = subst (λ k. Ran tells failed middle ended disk' setting k (state_after setting s xs) ys qs) at (subst (λ w. Ran tells failed middle ended disk' setting m w ys qs) from b') in
-    let joined : bytes_of (ps ++ qs) ≡ transcript setting n s xs ++ bytes_of qs = bytes_of-append ps qs ∙ ap (λ r. r ++ bytes_of qs) whole in
-    record {
-      later = omega (arith, a.later, b.later);
-      output = subst (λ out. IsPrefix out (transcript setting n s (xs ++ ys))) (sym joined)
-          (subst (λ t. IsPrefix (transcript setting n s xs ++ bytes_of qs) t) (sym (transcript-append setting n s xs ys)) (prefix_behind (transcript setting n s xs) _ _ b.output));
-      times = within-append _ _ ps qs (within_wider _ _ _ _ ps (omega arith) b.later a.times) (within_wider _ _ _ _ qs a.later (omega arith) b.times);
-      holds = λ told. subst (λ out. HoldsFront failed setting n s (xs ++ ys) out disk') (sym joined) (holds_behind failed setting n s xs ys (bytes_of qs) disk' (b.holds told));
-    }
+module _ {S : Type 0} (m : Machine S) where
+  -- before the first line
+  pub ran_none : (failed : Bool) (disk : DiskAt) (n : ℕ) (s : S) → (m.on_disk s disk.told) → Ran m failed disk disk n s [] []
+  ran_none failed disk n s same = record {
+    later = omega arith;
+    output = subst (λ out. IsPrefix out (transcript m n s [])) (sym bytes_of-nil) (prefix-nil _);
+    times = within-nil _ _;
+    holds = subst (λ out. HoldsFront m failed n s [] out disk.told) (sym bytes_of-nil) (holds_none m failed n s [] disk.told same);
+  }
 
--- a run is one over more lines
-pub ran_wider : (tells failed : Type 0) (began ended : ℕ) (disk : Standing) (setting : Setting) (n : ℕ) (s : State) (xs ys : List (List ℕ)) (ps : List Piece) → Ran tells failed began ended disk setting n s xs ps → Ran tells failed began ended disk setting n s (xs ++ ys) ps
-ran_wider tells failed began ended disk setting n s xs ys ps a = record {
-  later = a.later;
-  output = subst (λ t. IsPrefix (bytes_of ps) t) (sym (transcript-append setting n s xs ys)) (prefix_of (bytes_of ps) _ _ a.output);
-  times = a.times;
-  holds = λ told. holds_wider failed setting n s xs ys _ disk (a.holds told);
-}
+  -- more lines behind a run that answered all of its own
+  pub ran_more : (first failed : Bool) (before middle now : DiskAt) (n k : ℕ) (s u : S) (xs ys : List (List ℕ)) (ps qs : List Piece)
+      → Ran m first before middle n s xs ps → bytes_of ps ≡ transcript m n s xs → k ≡ n + length xs → u ≡ state_after m s xs
+      → Ran m failed middle now k u ys qs → Ran m failed before now n s (xs ++ ys) (ps ++ qs)
+  ran_more first failed before middle now n k s u xs ys ps qs a whole at from b' =
+      let b = subst (λ i. Ran m failed middle now i (state_after m s xs) ys qs) at (subst (λ w. Ran m failed middle now k w ys qs) from b') in
+      let joined : bytes_of (ps ++ qs) ≡ transcript m n s xs ++ bytes_of qs = bytes_of-append ps qs ∙ ap (λ r. r ++ bytes_of qs) whole in
+      record {
+        later = omega (arith, a.later, b.later);
+        output = subst (λ out. IsPrefix out (transcript m n s (xs ++ ys))) (sym joined)
+            (subst (λ t. IsPrefix (transcript m n s xs ++ bytes_of qs) t) (sym (transcript-append m n s xs ys)) (prefix_behind (transcript m n s xs) _ _ b.output));
+        times = within-append _ _ ps qs (within_wider _ _ _ _ ps (omega arith) b.later a.times) (within_wider _ _ _ _ qs a.later (omega arith) b.times);
+        holds = subst (λ out. HoldsFront m failed n s (xs ++ ys) out now.told) (sym joined) (holds_behind m failed n s xs ys (bytes_of qs) now.told b.holds);
+      }
 
-pub ran_weaker : (tells failed other : Type 0) (began ended : ℕ) (disk : Standing) (setting : Setting) (n : ℕ) (s : State) (ls : List (List ℕ)) (ps : List Piece) → (failed → other) → Ran tells failed began ended disk setting n s ls ps → Ran tells other began ended disk setting n s ls ps
-ran_weaker tells failed other began ended disk setting n s ls ps f a = record {
-  later = a.later;
-  output = a.output;
-  times = a.times;
-  holds = λ told. holds_weaker failed other setting n s ls _ disk f (a.holds told);
-}
+  -- a run is one over more lines
+  pub ran_wider : (failed : Bool) (before now : DiskAt) (n : ℕ) (s : S) (xs ys : List (List ℕ)) (ps : List Piece) → Ran m failed before now n s xs ps → Ran m failed before now n s (xs ++ ys) ps
+  ran_wider failed before now n s xs ys ps a = record {
+    later = a.later;
+    output = subst (λ t. IsPrefix (bytes_of ps) t) (sym (transcript-append m n s xs ys)) (prefix_of (bytes_of ps) _ _ a.output);
+    times = a.times;
+    holds = holds_wider m failed n s xs ys _ now.told a.holds;
+  }
 
--- lines of which nothing was emitted
-pub ran_silent : (tells failed : Type 0) (began ended : ℕ) (disk : Standing) (setting : Setting) (n : ℕ) (s : State) (ls : List (List ℕ)) → began ≤ ended → (tells → HoldsFront failed setting n s ls [] disk) → Ran tells failed began ended disk setting n s ls []
-ran_silent tells failed began ended disk setting n s ls later holds = record {
-  later = later;
-  output = subst (λ out. IsPrefix out (transcript setting n s ls)) (sym bytes_of-nil) (prefix-nil _);
-  times = within-nil _ _;
-  holds = λ told. subst (λ out. HoldsFront failed setting n s ls out disk) (sym bytes_of-nil) (holds told);
-}
+  pub ran_weaker : (failed other : Bool) (before now : DiskAt) (n : ℕ) (s : S) (ls : List (List ℕ)) (ps : List Piece) → (failed ≡ true → other ≡ true) → Ran m failed before now n s ls ps → Ran m other before now n s ls ps
+  ran_weaker failed other before now n s ls ps f a = record {
+    later = a.later;
+    output = a.output;
+    times = a.times;
+    holds = holds_weaker m failed other n s ls _ now.told f a.holds;
+  }
 
--- one line, of whose answer a front was emitted
-pub ran_emitted : (tells failed : Type 0) (began ended : ℕ) (disk : Standing) (setting : Setting) (n : ℕ) (s : State) (line : List ℕ) (ps : List Piece) → began ≤ ended → AllAt ended ps
-    → IsPrefix (bytes_of ps) (transcript setting n s (line ∷ [])) → (tells → StandsFor disk (after setting s line)) → Ran tells failed began ended disk setting n s (line ∷ []) ps
-ran_emitted tells failed began ended disk setting n s line ps later at front same = record {
-  later = later;
-  output = front;
-  times = within_at _ _ ended ps later (omega arith) at;
-  holds = λ told. holds_all failed setting n s (line ∷ []) _ disk front (subst (λ u. StandsFor disk u) (sym (state_after-one setting s line)) (same told));
-}
+  -- lines of which nothing was emitted
+  pub ran_silent : (failed : Bool) (before now : DiskAt) (n : ℕ) (s : S) (ls : List (List ℕ)) → before.moment ≤ now.moment → (HoldsFront m failed n s ls [] now.told) → Ran m failed before now n s ls []
+  ran_silent failed before now n s ls later holds = record {
+    later = later;
+    output = subst (λ out. IsPrefix out (transcript m n s ls)) (sym bytes_of-nil) (prefix-nil _);
+    times = within-nil _ _;
+    holds = subst (λ out. HoldsFront m failed n s ls out now.told) (sym bytes_of-nil) holds;
+  }
 
--- a line that stopped
-pub ran_stopped : {D : Type 0} (tells : Type 0) (stands : D → Standing) (moment : D → ℕ) (began : ℕ) (setting : Setting) (n : ℕ) (s : State) (line : List ℕ) (stopped : Stopped D) → began ≤ moment (fault_disk (fault_of stopped))
-    → (tells → LeavesBetween stands s (after setting s line) stopped)
-    → Ran tells (IsTrue (is_disk_fault (Err (fault_of stopped)))) began (moment (fault_disk (fault_of stopped))) (stands (fault_disk (fault_of stopped))) setting n s (line ∷ []) []
-ran_stopped tells stands moment began setting n s line (Disk disk) later left = ran_silent tells _ began (moment disk) (stands disk) setting n s (line ∷ []) later (λ told. holds_torn _ setting n s (line ∷ []) (stands disk) refl (left told))
-ran_stopped tells stands moment began setting n s line (Memory disk) later left = ran_silent tells _ began (moment disk) (stands disk) setting n s (line ∷ []) later (λ told. holds_none _ setting n s (line ∷ []) (stands disk) (left told))
+  -- a line that wasn't done
+  pub ran_undone : (failed : Bool) (before now : DiskAt) (n : ℕ) (s : S) (line : List ℕ) → before.moment ≤ now.moment → (m.on_disk s now.told) → Ran m failed before now n s (line ∷ []) []
+  ran_undone failed before now n s line later same = ran_silent failed before now n s (line ∷ []) later (holds_none m failed n s (line ∷ []) now.told same)
 
--- a line that was done, and of which nothing was emitted
-pub ran_unsaid : (tells failed : Type 0) (began ended : ℕ) (disk : Standing) (setting : Setting) (n : ℕ) (s : State) (line : List ℕ) → began ≤ ended → (tells → StandsFor disk (after setting s line)) → Ran tells failed began ended disk setting n s (line ∷ []) []
-ran_unsaid tells failed began ended disk setting n s line later same =
-    ran_silent tells failed began ended disk setting n s (line ∷ []) later (λ told. holds_all failed setting n s (line ∷ []) [] disk (prefix-nil _) (subst (λ u. StandsFor disk u) (sym (state_after-one setting s line)) (same told)))
+  -- a line in which the disk failed
+  pub ran_torn : (before now : DiskAt) (n : ℕ) (s : S) (line : List ℕ) → before.moment ≤ now.moment → (m.torn_by s line now.told) → Ran m true before now n s (line ∷ []) []
+  ran_torn before now n s line later torn = ran_silent true before now n s (line ∷ []) later (holds_torn m true n s (line ∷ []) now.told refl torn)
+
+  -- one line, of whose answer a front was emitted
+  pub ran_emitted : (failed : Bool) (before now : DiskAt) (n : ℕ) (s : S) (line : List ℕ) (ps : List Piece) → before.moment ≤ now.moment → AllAt now.moment ps
+      → IsPrefix (bytes_of ps) (transcript m n s (line ∷ [])) → (m.on_disk (m.after s line) now.told) → Ran m failed before now n s (line ∷ []) ps
+  ran_emitted failed before now n s line ps later at front same = record {
+    later = later;
+    output = front;
+    times = within_at _ _ now.moment ps later (omega arith) at;
+    holds = holds_all m failed n s (line ∷ []) _ now.told front (subst (λ u. m.on_disk u now.told) (sym (state_after-one m s line)) same);
+  }
+
+  -- a line that was done, and of which nothing was emitted
+  pub ran_unsaid : (failed : Bool) (before now : DiskAt) (n : ℕ) (s : S) (line : List ℕ) → before.moment ≤ now.moment → (m.on_disk (m.after s line) now.told) → Ran m failed before now n s (line ∷ []) []
+  ran_unsaid failed before now n s line later same =
+      ran_silent failed before now n s (line ∷ []) later (holds_all m failed n s (line ∷ []) [] now.told (prefix-nil _) (subst (λ u. m.on_disk u now.told) (sym (state_after-one m s line)) same))

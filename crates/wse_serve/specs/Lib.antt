@@ -1,5 +1,14 @@
 pub mod Causes
+pub mod Edited
+pub mod Edits
+pub mod Ending
+pub mod Limits
 pub mod Machine
+pub mod Reasons
+pub mod Refusals
 pub mod Reply
 pub mod Run
+pub mod Scene
+pub mod Serving
 pub mod Session
+pub mod Start

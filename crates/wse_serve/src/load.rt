@@ -2,9 +2,11 @@
 ghost use Rattle.std.specs.Prelude.{◌≡◌, ◌+◌, ◌<◌, ◌≤◌, length, take, IfOk, OnOk};
 ghost use Rattle.wse_path.specs.Tree.{IsTree};
 ghost use Rattle.wse_disk.specs.Causes.{HasReadCause};
-ghost use Rattle.wse_serve.specs.Machine.{first_versions};
-ghost use Rattle.wse_serve.specs.Session.{with_file};
+ghost use Rattle.wse_disk.specs.Told.{ReadsFiles};
+ghost use Rattle.wse_serve.specs.Edits.{first_versions};
+ghost use Rattle.wse_serve.specs.Session.{LoadsFile, state_of};
 
+use crate::session::Session;
 use std::alloc::Global;
 use wse_disk::{Disk, ReadErr};
 use wse_path::{Bytes, Duplicate, Memory, RelPath, Tree, Versions};
@@ -16,9 +18,8 @@ fn load_file<D: Disk>(
     tree: &mut Tree,
     path: RelPath,
 ) -> Result<(), ReadErr>
-    ensures loaded { D.tells
-        → OnOk result (tree.new.files ≡ with_file (D.stands disk.old).reading.files tree.old.files path) }
-    ensures same { D.tells → D.stands disk.new ≡ D.stands disk.old }
+    ensures loaded { OnOk result (LoadsFile (D.told disk.old) path tree.old.files tree.new.files) }
+    ensures same { D.told disk.new ≡ D.told disk.old }
     ensures later { D.moment_of disk.old ≤ D.moment_of disk.new }
     ensures cause { HasReadCause (D.faults disk.old) (D.faults disk.new) result }
 {
@@ -37,8 +38,8 @@ fn load_file<D: Disk>(
 
 /// The tree that the disk holds. Of paths that are no tree, which only a disk that tells nothing may name, the first stand.
 fn load_tree<D: Disk>(alloc: Global, disk: &mut D) -> Result<Tree, ReadErr>
-    ensures loaded { D.tells → IfOk result (λ tree. tree.files ≡ (D.stands disk.old).reading.files) }
-    ensures same { D.tells → D.stands disk.new ≡ D.stands disk.old }
+    ensures loaded { IfOk result (λ tree. ReadsFiles (D.told disk.old) tree.files) }
+    ensures same { D.told disk.new ≡ D.told disk.old }
     ensures later { D.moment_of disk.old ≤ D.moment_of disk.new }
     ensures cause { HasReadCause (D.faults disk.old) (D.faults disk.new) result }
 {
@@ -90,12 +91,30 @@ pub struct Loaded {
     pub versions: Versions,
 }
 
+impl Loaded {
+    /// The session before the first line.
+    pub fn into_session<D: Disk>(self, disk: D) -> Session<D>
+        ensures disk { result.disk ≡ disk }
+        ensures state { state_of result
+            ≡ record { files = self.tree.files; versions = self.versions.entries; serial = 0; elements = 0 } }
+    {
+        let Loaded { tree, versions } = self;
+        Session {
+            disk,
+            tree,
+            versions,
+            serial: 0,
+            elements: 0,
+        }
+    }
+}
+
 /// Reads the tree of the disk, each of its paths at version 1.
 pub fn load<D: Disk>(alloc: Global, disk: &mut D) -> Result<Loaded, ReadErr>
-    ensures tree { D.tells → IfOk result (λ loaded. loaded.tree.files ≡ (D.stands disk.old).reading.files) }
+    ensures tree { IfOk result (λ loaded. ReadsFiles (D.told disk.old) loaded.tree.files) }
     ensures versions { IfOk result (λ loaded. loaded.versions.entries ≡ first_versions loaded.tree.files) }
     ensures sound { IfOk result (λ loaded. IsTree loaded.tree.files) }
-    ensures same { D.tells → D.stands disk.new ≡ D.stands disk.old }
+    ensures same { D.told disk.new ≡ D.told disk.old }
     ensures later { D.moment_of disk.old ≤ D.moment_of disk.new }
     ensures cause { HasReadCause (D.faults disk.old) (D.faults disk.new) result }
 {

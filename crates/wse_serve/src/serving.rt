@@ -1,21 +1,24 @@
 // Lines in, answers out.
-ghost use Rattle.std.specs.Prelude.{◌≡◌, ◌^◌, ◌≤◌, ◌∷◌, [], List, ℕ, Bool, IfOk, IfErr, OnOk, IsTrue};
-ghost use Rattle.wse_path.specs.Limits.{standard};
-ghost use Rattle.wse_uri.specs.FileUrl.{IsPlainFileUrl};
+ghost use Rattle.std.specs.Prelude.{◌≡◌, ◌≤◌, ◌∷◌, [], false, List, IfOk, OnOk};
 ghost use Rattle.wse_io.specs.Stream.{Piece, Adds, bytes_of};
-ghost use Rattle.wse_serve.specs.Machine.{State, reply, after, transcript};
-ghost use Rattle.wse_serve.specs.Session.{state_of, StandsFor, IsSound, disk_after, stopped_disk, LeavesBetween, StepCause, StepLasts};
-ghost use Rattle.wse_serve.specs.Run.{Ran, Runs, IsStart, one_disk, fault_disk, is_disk_fault, fault_of, OneCause, OneLasts, Lasts, end_of_lines, end_of_one, EndCause};
+ghost use Rattle.wse_serve.specs.Machine.{transcript};
+ghost use Rattle.wse_serve.specs.Scene.{disk_at, scene, faults, Lasts};
+ghost use Rattle.wse_serve.specs.Ending.{ending_of, HasCauses};
+ghost use Rattle.wse_serve.specs.Run.{Ran, Runs};
+ghost use Rattle.wse_serve.specs.Edits.{edits, after, StandsFor};
+ghost use Rattle.wse_serve.specs.Start.{TellsHit, RunsEdits};
+ghost use Rattle.wse_serve.specs.Session.{state_of, IsSound, stopped_disk};
+ghost use Rattle.wse_serve.specs.Serving.{one_disk, fault_disk, is_disk_fault, fault_of, OneCause, OneLasts, end_of_lines, end_of_one};
 
-use crate::load::{Loaded, load};
-use crate::reply::{Reply, reply_text};
+use crate::load::load;
+use crate::reply::reply_text;
 use crate::session::{Session, Stopped};
 use crate::setting::Setting;
+use crate::start::start_hit;
 use std::alloc::Global;
 use wse_disk::{Disk, ReadErr};
 use wse_io::{Line, LineFault, Lines, Sink, Source, WriteFailed, emit_all};
-use wse_json::{OneRefused, read_one};
-use wse_path::Memory;
+use wse_path::{Hit, Memory};
 
 /// Why a line wasn't answered. The disk is handed back.
 pub enum ServeFault<D: Disk> {
@@ -42,43 +45,14 @@ pub enum ServeEnd {
     Memory,
     /// The source gave one byte past the limit.
     InputLimit { taken: u64 },
+    /// The starting tree passes a limit. No line was read.
+    TooBig(Hit),
 }
 
 /// The disk after serving, and how serving ended.
 pub struct Served<D: Disk> {
     pub disk: D,
     pub end: ServeEnd,
-}
-
-/// Does what a line says.
-#[tactic(auto, unfolding(crate::specs::Machine::after, crate::specs::Machine::reply))]
-fn perform<D: Disk>(
-    alloc: Global,
-    session: Session<D>,
-    setting: &Setting,
-    line: &[u8],
-) -> Result<(Session<D>, Reply), Stopped<D>>
-    requires agrees { D.tells → StandsFor (D.stands session.disk) (state_of session) }
-    requires sound { IsSound setting.now.serial (state_of session) }
-    requires root { IsPlainFileUrl setting.now.root }
-    requires bounded { setting.now.serial ≤ standard.serial }
-    ensures state { IfOk result (λ x. state_of x.0 ≡ after setting.now (state_of session) line.now) }
-    ensures answer { IfOk result (λ x. x.1 ≡ reply setting.now (state_of session) line.now) }
-    ensures sound { IfOk result (λ x. IsSound setting.now.serial (state_of x.0)) }
-    ensures agrees { D.tells → IfOk result (λ x. StandsFor (D.stands x.0.disk) (state_of x.0)) }
-    ensures left { D.tells → IfErr result
-        (LeavesBetween D.stands (state_of session) (after setting.now (state_of session) line.now)) }
-    ensures lasts { D.tells → StepLasts D.stands session.disk result }
-    ensures later { D.moment_of session.disk ≤ D.moment_of (disk_after result) }
-    ensures cause { StepCause D.faults session.disk result }
-{
-    match read_one(alloc, &setting.root, line) {
-        Ok(op) => session.operate(alloc, &op, setting.serial),
-        Err(OneRefused::NotJson) => Ok((session, Reply::NotJson)),
-        Err(OneRefused::NotBuilt) => Ok((session, Reply::NotBuilt)),
-        Err(OneRefused::Uri { pointer, why }) => Ok((session, Reply::Uri { pointer, why })),
-        Err(OneRefused::Memory) => Err(Stopped::Memory(session.into_disk())),
-    }
 }
 
 fn into_fault<D: Disk>(stopped: Stopped<D>) -> ServeFault<D>
@@ -100,21 +74,22 @@ pub fn serve_one<K: Sink, D: Disk>(
     line: &[u8],
     out: &mut K,
 ) -> Result<Session<D>, ServeFault<D>>
-    requires agrees { D.tells → StandsFor (D.stands session.disk) (state_of session) }
-    requires sound { IsSound setting.now.serial (state_of session) }
-    requires root { IsPlainFileUrl setting.now.root }
-    requires bounded { setting.now.serial ≤ standard.serial }
+    requires agrees { StandsFor (state_of session) (D.told session.disk) }
+    requires sound { IsSound setting.now.bounds.limits (state_of session) }
     ensures run { (added : List Piece) × Adds (K.pieces out.old) (K.pieces out.new) added
-        × Ran D.tells (IsTrue (is_disk_fault result)) (D.moment_of session.disk) (D.moment_of (one_disk result))
-        (D.stands (one_disk result)) setting.now n (state_of session) (line.now ∷ []) added
-        × OnOk result (bytes_of added ≡ transcript setting.now n (state_of session) (line.now ∷ [])) }
-    ensures next { IfOk result (λ next. state_of next ≡ after setting.now (state_of session) line.now) }
-    ensures sound { IfOk result (λ next. IsSound setting.now.serial (state_of next)) }
-    ensures agrees { D.tells → IfOk result (λ next. StandsFor (D.stands next.disk) (state_of next)) }
-    ensures lasts { D.tells → OneLasts D.stands session.disk result }
+        × Ran (edits setting.now.root setting.now.bounds.limits) (is_disk_fault result)
+        (disk_at D.moment_of D.told session.disk) (disk_at D.moment_of D.told (one_disk result))
+        n (state_of session) (line.now ∷ []) added
+        × OnOk result (bytes_of added
+        ≡ transcript (edits setting.now.root setting.now.bounds.limits) n (state_of session) (line.now ∷ [])) }
+    ensures next { IfOk result (λ next. state_of next
+        ≡ after setting.now.root setting.now.bounds.limits (state_of session) line.now) }
+    ensures sound { IfOk result (λ next. IsSound setting.now.bounds.limits (state_of next)) }
+    ensures agrees { IfOk result (λ next. StandsFor (state_of next) (D.told next.disk)) }
+    ensures lasts { OneLasts D.told session.disk result }
     ensures cause { OneCause D.faults session.disk (K.faults out.old) (K.faults out.new) result }
 {
-    let (session, reply) = match perform(alloc, session, setting, line) {
+    let (session, reply) = match session.line(alloc, setting, line) {
         Ok(performed) => performed,
         Err(stopped) => return Err(into_fault(stopped)),
     };
@@ -160,29 +135,29 @@ fn end_of(fault: LineFault) -> ServeEnd
     }
 }
 
-/// Answers the lines of the source, to its end or to the first fault. At most `max_input` bytes are read as lines.
+/// Answers the lines of the source, to its end or to the first fault. Of its bytes at most as many as the bounds say are
+/// read as lines.
 pub fn serve<S: Source, K: Sink, D: Disk>(
     alloc: Global,
     session: Session<D>,
     setting: &Setting,
     source: &mut S,
     out: &mut K,
-    max_input: u64,
 ) -> Served<D>
-    requires some { 1 ≤ max_input }
-    requires countable { max_input ≤ 2 ^ 62 }
-    requires sound { IsSound setting.now.serial (state_of session) }
-    requires root { IsPlainFileUrl setting.now.root }
-    requires bounded { setting.now.serial ≤ standard.serial }
-    requires agrees { D.tells → StandsFor (D.stands session.disk) (state_of session) }
-    ensures run { (taken : List ℕ) × (over : Bool) × (added : List Piece) ×
-        Runs D.tells D.stands D.moment_of session.disk result setting.now (state_of session) max_input
-        (S.left source.old) (S.left source.new) (K.pieces out.old) (K.pieces out.new) taken over added }
-    ensures lasts { D.tells → Lasts (D.stands session.disk) (D.stands result.disk) (result.end ≡ ServeEnd.Disk) }
-    ensures causes { EndCause result.end (S.faults source.old) (S.faults source.new) (K.faults out.old)
-        (K.faults out.new) (D.faults session.disk) (D.faults result.disk) }
+    requires sound { IsSound setting.now.bounds.limits (state_of session) }
+    requires agrees { StandsFor (state_of session) (D.told session.disk) }
+    ensures run { Runs (edits setting.now.root setting.now.bounds.limits) (state_of session)
+        setting.now.bounds.max_input
+        (scene (S.left source.old) (K.pieces out.old) (disk_at D.moment_of D.told session.disk))
+        (scene (S.left source.new) (K.pieces out.new) (disk_at D.moment_of D.told result.disk))
+        (ending_of result.end) }
+    ensures started { (ending_of result.end).too_big ≡ false }
+    ensures lasts { Lasts (D.told session.disk) (D.told result.disk) (ending_of result.end).disk }
+    ensures causes { HasCauses (ending_of result.end)
+        (faults (S.faults source.old) (K.faults out.old) (D.faults session.disk))
+        (faults (S.faults source.new) (K.faults out.new) (D.faults result.disk)) }
 {
-    let mut lines = Lines::new(alloc, usize::MAX, max_input);
+    let mut lines = Lines::new(alloc, usize::MAX, setting.bounds.max_input);
     let mut session = session;
     let mut n = 1;
     loop {
@@ -209,45 +184,45 @@ pub fn serve<S: Source, K: Sink, D: Disk>(
     }
 }
 
-/// Reads the tree that the disk holds, and answers the lines of the source over it.
+/// Reads the tree that the disk holds, and answers the lines of the source over it, unless it passes a limit.
 pub fn serve_disk<S: Source, K: Sink, D: Disk>(
     alloc: Global,
     disk: D,
     setting: &Setting,
     source: &mut S,
     out: &mut K,
-    max_input: u64,
 ) -> Served<D>
-    requires some { 1 ≤ max_input }
-    requires countable { max_input ≤ 2 ^ 62 }
-    requires root { IsPlainFileUrl setting.now.root }
-    requires bounded { setting.now.serial ≤ standard.serial }
-    ensures run { (s : State) × (taken : List ℕ) × (over : Bool) × (added : List Piece)
-        × IsStart D.tells (D.stands disk) s
-        × Runs D.tells D.stands D.moment_of disk result setting.now s max_input
-        (S.left source.old) (S.left source.new) (K.pieces out.old) (K.pieces out.new) taken over added }
-    ensures lasts { D.tells → Lasts (D.stands disk) (D.stands result.disk) (result.end ≡ ServeEnd.Disk) }
-    ensures causes { EndCause result.end (S.faults source.old) (S.faults source.new) (K.faults out.old)
-        (K.faults out.new) (D.faults disk) (D.faults result.disk) }
+    ensures run { RunsEdits setting.now.root setting.now.bounds.limits setting.now.bounds.max_input
+        (scene (S.left source.old) (K.pieces out.old) (disk_at D.moment_of D.told disk))
+        (scene (S.left source.new) (K.pieces out.new) (disk_at D.moment_of D.told result.disk))
+        (ending_of result.end) }
+    ensures too_big { TellsHit (D.told disk) setting.now.bounds.limits result.end }
+    ensures lasts { Lasts (D.told disk) (D.told result.disk) (ending_of result.end).disk }
+    ensures causes { HasCauses (ending_of result.end)
+        (faults (S.faults source.old) (K.faults out.old) (D.faults disk))
+        (faults (S.faults source.new) (K.faults out.new) (D.faults result.disk)) }
 {
     let mut disk = disk;
-    match load(alloc, &mut disk) {
-        Ok(Loaded { tree, versions }) => {
-            let session = Session {
+    let loaded = match load(alloc, &mut disk) {
+        Ok(loaded) => loaded,
+        Err(ReadErr::Failed) => {
+            return Served {
                 disk,
-                tree,
-                versions,
-                done: 0,
+                end: ServeEnd::Disk,
             };
-            serve(alloc, session, setting, source, out, max_input)
         }
-        Err(ReadErr::Failed) => Served {
+        Err(ReadErr::Memory) => {
+            return Served {
+                disk,
+                end: ServeEnd::Memory,
+            };
+        }
+    };
+    match start_hit(&setting.bounds.limits, &loaded.tree) {
+        Some(hit) => Served {
             disk,
-            end: ServeEnd::Disk,
+            end: ServeEnd::TooBig(hit),
         },
-        Err(ReadErr::Memory) => Served {
-            disk,
-            end: ServeEnd::Memory,
-        },
+        None => serve(alloc, loaded.into_session(disk), setting, source, out),
     }
 }

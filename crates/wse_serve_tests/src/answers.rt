@@ -1,7 +1,8 @@
 // What edits are answered, and what they leave.
-use crate::case::{Case, PLAIN, THREE_FILES, edits, ends, leave};
+use crate::case::{Case, LIMITS, PLAIN, THREE_FILES, edits, ends, leave};
 use std::alloc::Global;
 use std::test::Fail;
+use wse_path::Limits;
 use wse_serve::ServeEnd;
 
 const CREATE_A: &str = r#"{"kind":"create","uri":"file:///w/a"}"#;
@@ -127,27 +128,6 @@ fn a_failed_operation_says_why(rt: HostRuntime) -> Result<(), Fail> {
     Ok(())
 }
 
-const OTHER_FORMS: &str = r#"{"kind":"move"}
-{"kind":"create","uri":"file:///w/a","more":1}
-{"kind":"create","uri":"file:///w/a","options":{"overwrite":1}}
-"#;
-
-fn is_not_built(alloc: Global, operation: &str) -> Result<bool, Fail> {
-    let out = "{\"n\":1,\"refused\":\"not built\"}\n";
-    leave(alloc, &[], &[operation], out, "")
-}
-
-#[test]
-fn other_lines_are_not_built(rt: HostRuntime) -> Result<(), Fail> {
-    let alloc = rt.alloc();
-    for operation in OTHER_FORMS.lines() {
-        assert!(rt; is_not_built(alloc, operation)?, "{operation}");
-    }
-    let out = "{\"n\":1,\"refused\":\"not JSON\"}\n";
-    assert!(rt; ends(alloc, &PLAIN, "{\n", ServeEnd::Done, out, "")?);
-    Ok(())
-}
-
 const ONE_EDIT_LEFT: &str = r#"{"applied":true,"changed":{"a":1},"element":1,"n":1,"skipped":[]}
 {"applied":true,"changed":{},"element":null,"n":2,"skipped":[]}
 {"applied":false,"changed":{},"element":null,"failureReason":"limit serial: 2","n":3,"skipped":[]}
@@ -156,7 +136,10 @@ const ONE_EDIT_LEFT: &str = r#"{"applied":true,"changed":{"a":1},"element":1,"n"
 fn second_change_is_refused(alloc: Global) -> Result<bool, Fail> {
     let input = edits(alloc, &[CREATE_A, CREATE_A_ANYWAY, DELETE_A])?;
     let case = Case {
-        max_serial: 1,
+        limits: Limits {
+            serial: 1,
+            ..LIMITS
+        },
         ..PLAIN
     };
     ends(

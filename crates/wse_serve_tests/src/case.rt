@@ -1,14 +1,11 @@
 // Runs over objects in memory, and what they leave.
-ghost use Rattle.std.specs.Prelude.{◌≤◌, IfOk};
-ghost use Rattle.wse_path.specs.Limits.{standard};
-ghost use Rattle.wse_uri.specs.FileUrl.{IsPlainFileUrl};
-
 use std::alloc::Global;
 use std::test::Fail;
-use wse_disk::{Disk, MemDisk};
+use wse_apply::are_within_standard;
+use wse_disk::{Call, Disk, MemDisk};
 use wse_io::{MemSink, MemSource};
-use wse_path::{Bytes, RelPath, Tree};
-use wse_serve::{ServeEnd, Served, Setting, serve_disk};
+use wse_path::{Bytes, Limits, RelPath, Tree};
+use wse_serve::{Bounds, ServeEnd, Served, Setting, serve_disk};
 use wse_uri::root_of;
 
 /// Files by their paths' texts, with their contents.
@@ -22,17 +19,26 @@ pub struct Case {
     pub files: Files,
     pub chunk: usize,
     pub max_input: u64,
-    pub max_serial: u64,
+    pub limits: Limits,
     pub disk_fails: u64,
     pub source_fails: u64,
     pub out_fails: u64,
 }
 
+pub const LIMITS: Limits = Limits {
+    files: 100,
+    file_bytes: 1_000,
+    tree_bytes: 10_000,
+    known: 100_000,
+    weight: 100_000,
+    serial: 1_000,
+};
+
 pub const PLAIN: Case = Case {
     files: &[],
     chunk: 65_536,
     max_input: 1_000_000,
-    max_serial: 1_000_000,
+    limits: LIMITS,
     disk_fails: 0,
     source_fails: 0,
     out_fails: 0,
@@ -83,13 +89,19 @@ pub fn listed(alloc: Global, tree: &Tree) -> Result<Vec<u8>, Fail> {
     Ok(all)
 }
 
-fn setting_of(alloc: Global, case: &Case) -> Result<Setting, Fail>
-    ensures root { IfOk result (λ setting. IsPlainFileUrl setting.root) }
-    ensures bounded { IfOk result (λ setting. setting.serial ≤ standard.serial) }
-{
+fn bounds_of(case: &Case) -> Result<Bounds, Fail> {
+    let limits = case.limits;
+    if !are_within_standard(&limits) {
+        return Err(Fail::new("limits above those of the program"));
+    }
+    let max_input = case.max_input.max(1).min(1_000_000);
+    Ok(Bounds { max_input, limits })
+}
+
+fn setting_of(alloc: Global, case: &Case) -> Result<Setting, Fail> {
     let root = root_of(alloc, "file:///w")?;
-    let serial = case.max_serial.min(1_000_000);
-    Ok(Setting { root, serial })
+    let bounds = bounds_of(case)?;
+    Ok(Setting { root, bounds })
 }
 
 fn disk_of(alloc: Global, case: &Case) -> Result<MemDisk, Fail> {
@@ -108,16 +120,24 @@ fn sink_of(alloc: Global, case: &Case) -> Result<MemSink, Fail> {
     Ok(MemSink::new(alloc, case.chunk.max(1), fails))
 }
 
+/// Whether something was called behind the last sync.
+fn is_pending(calls: &[Call]) -> bool {
+    match calls.last() {
+        None => false,
+        Some(Call::Sync { failed }) => *failed,
+        Some(_) => true,
+    }
+}
+
 pub fn run_case(alloc: Global, case: &Case, input: &str) -> Result<Outcome, Fail> {
     let setting = setting_of(alloc, case)?;
     let disk = disk_of(alloc, case)?;
     let mut source = source_of(alloc, case, input)?;
     let mut out = sink_of(alloc, case)?;
-    let max_input = case.max_input.max(1).min(1_000_000);
-    let Served { disk, end } = serve_disk(alloc, disk, &setting, &mut source, &mut out, max_input);
+    let Served { disk, end } = serve_disk(alloc, disk, &setting, &mut source, &mut out);
     let faults = disk.faults().max(source.faults()).max(out.faults());
     let moment = disk.moment();
-    let is_pending = disk.is_pending();
+    let is_pending = is_pending(disk.calls());
     let tree = disk.into_tree();
     Ok(Outcome {
         end,

@@ -16,7 +16,7 @@ const CREATED_THEN_EXISTS: &str =
 {"applied":false,"changed":{},"element":null,"failedChange":0,"failureReason":"exists","n":2,"skipped":[]}
 "#;
 
-const NOT_BUILT: &str = "{\"n\":1,\"refused\":\"not built\"}\n";
+const NO_VERB: &str = "{\"at\":\"/do\",\"n\":1,\"refused\":\"field\"}\n";
 
 fn stops_between_two_erases(alloc: Global) -> Result<bool, Fail> {
     let input = edits(alloc, &[RENAME_D_TO_E])?;
@@ -48,7 +48,7 @@ fn stops_at_the_limit(alloc: Global) -> Result<bool, Fail> {
         ..PLAIN
     };
     let end = ServeEnd::InputLimit { taken: 6 };
-    ends(alloc, &case, "{}\n{}\n", end, NOT_BUILT, "")
+    ends(alloc, &case, "{}\n{}\n", end, NO_VERB, "")
 }
 
 fn stops_in_spaces(alloc: Global) -> Result<bool, Fail> {

@@ -1,7 +1,8 @@
 // What is written on the disk, and when.
-use crate::case::{Case, Outcome, PLAIN, THREE_FILES, edits, run_case};
+use crate::case::{Case, LIMITS, Outcome, PLAIN, THREE_FILES, edits, run_case};
 use std::alloc::Global;
 use std::test::Fail;
+use wse_path::Limits;
 use wse_serve::ServeEnd;
 
 const CREATE_A: &str = r#"{"kind":"create","uri":"file:///w/a"}"#;
@@ -16,19 +17,19 @@ const DELETE_NONE: &str =
     r#"{"kind":"delete","uri":"file:///w/a","options":{"ignoreIfNotExists":true}}"#;
 
 /// Runs the operations over three files, so many of which may change the tree.
-fn run_over_three(alloc: Global, operations: &[&str], max_serial: u64) -> Result<Outcome, Fail> {
+fn run_over_three(alloc: Global, operations: &[&str], serial: u64) -> Result<Outcome, Fail> {
     let input = edits(alloc, operations)?;
     let case = Case {
         files: &THREE_FILES,
-        max_serial,
+        limits: Limits { serial, ..LIMITS },
         ..PLAIN
     };
     run_case(alloc, &case, input.as_str())
 }
 
 /// Whether the disk's moment is this after the operation, each store, erase and sync being one.
-fn writes(alloc: Global, operation: &str, max_serial: u64, moment: u64) -> Result<bool, Fail> {
-    let got = run_over_three(alloc, &[operation], max_serial)?;
+fn writes(alloc: Global, operation: &str, serial: u64, moment: u64) -> Result<bool, Fail> {
+    let got = run_over_three(alloc, &[operation], serial)?;
     Ok(got.moment == moment)
 }
 

@@ -1,61 +1,29 @@
--- What the end of serving says by its status.
-use Rattle.std.proofs.Common.{◌≡◌, ◌⊎◌, inl, inr, ℕ, ◌+◌, ◌≤◌, Bool, true, false, List, length, take, Option, refl, sym, ap, subst, arith}
-use Rattle.wse_disk.specs.Calls.{Standing}
-use Rattle.wse_io.specs.Stream.{Piece, bytes_of}
-use Rattle.wse_io.specs.Lines.{lines}
-use Rattle.wse_serve.specs.declared.setting.Setting.{Setting}
-use Rattle.wse_serve.specs.Machine.{State, transcript, state_after}
-use Rattle.wse_serve.specs.Run.{Runs, Whole, EndCause}
-use Rattle.wse_serve.specs.Session.{StandsFor}
+-- What an end says by its status.
+use Rattle.std.proofs.Common.{◌≡◌, inl, inr, ℕ, List, Option, Some, refl, sym, ap, subst, ◌∙◌, arith}
+use Rattle.wse_path.specs.declared.limits.Limits.{Limits}
+use Rattle.wse_path.specs.declared.limits.Hit.{Hit}
+use Rattle.wse_path.specs.declared.limits.Which.TheVariants.{Files}
+use Rattle.wse_disk.specs.Standing.{Standing}
+use Rattle.wse_disk.specs.Told.{WhereTold}
+use Rattle.url.specs.Parts.{Parts}
+use Rattle.wse_serve.specs.Ending.{Ending, ending_of}
+use Rattle.wse_serve.specs.Scene.{Scene}
+use Rattle.wse_serve.specs.Start.{start_hit, TellsHit, RunsEdits}
 use Rattle.wse_serve.specs.declared.serving.ServeEnd.{ServeEnd}
-use Rattle.wse_serve.specs.declared.serving.ServeEnd.TheVariants.{Done, Read, Write, Disk, Memory, InputLimit}
-use Rattle.wse_serve.specs.declared.serving.Served.{Served}
-use Rattle.wse_serve.proofs.RunLemmas.{holds_weaker}
-use Rattle.wsedit.specs.Program.{RunsFrom, StatusCause, IsStatus}
-use Rattle.wsedit.specs.Status.{code_of, status_of, line_of, line_for}
+use Rattle.wse_serve.specs.declared.serving.ServeEnd.TheVariants.{Done, Read, Write, Disk, Memory, InputLimit, TooBig}
+use Rattle.wsedit.specs.Status.{code_of, status_of, ending_by, line_of, line_for, IsStatus, IsHitOf}
 use Rattle.wsedit.specs.declared.status.Status.{Status}
 use Rattle.wsedit.specs.declared.status.Status.TheVariants as statuses
 
--- what the end says, by its status
-record ByStatus (status limit taken : ℕ) (over : Bool) (answered rests : Type 0) : Type 0 where
-  pub done : status ≡ 0 → (taken ≤ limit) × (over ≡ true) × answered × rests
-  pub read : status ≡ 3 → (taken ≤ limit) × (over ≡ false) × answered
-  pub passed : status ≡ 9 → (taken ≡ limit + 1) × (over ≡ false) × answered
-  pub only_passed : taken ≡ limit + 1 → (status ≡ 9) ⊎ (status ≡ 4) ⊎ (status ≡ 5) ⊎ (status ≡ 6)
-  pub never_more : taken ≤ limit + 1
-
-by_status : (end : ServeEnd) (limit taken : ℕ) (over : Bool) (answered rests : Type 0) → Whole end limit taken over answered rests → ByStatus (code_of (status_of end)) limit taken over answered rests
-by_status Done limit taken over answered rests h = record { done = λ s. h; read = λ s. absurd (omega arith); passed = λ s. absurd (omega arith); only_passed = λ t. absurd (let le = h.0 in omega arith); never_more = let le = h.0 in omega arith }
-by_status Read limit taken over answered rests h = record { done = λ s. absurd (omega arith); read = λ s. h; passed = λ s. absurd (omega arith); only_passed = λ t. absurd (let le = h.0 in omega arith); never_more = let le = h.0 in omega arith }
-by_status (InputLimit n) limit taken over answered rests h = record { done = λ s. absurd (omega arith); read = λ s. absurd (omega arith); passed = λ s. (h.0, h.2, h.3); only_passed = λ t. inl refl; never_more = let le = h.0 in omega arith }
-by_status Write limit taken over answered rests h = record { done = λ s. absurd (omega arith); read = λ s. absurd (omega arith); passed = λ s. absurd (omega arith); only_passed = λ t. inr (inl refl); never_more = h }
-by_status Disk limit taken over answered rests h = record { done = λ s. absurd (omega arith); read = λ s. absurd (omega arith); passed = λ s. absurd (omega arith); only_passed = λ t. inr (inr (inl refl)); never_more = h }
-by_status Memory limit taken over answered rests h = record { done = λ s. absurd (omega arith); read = λ s. absurd (omega arith); passed = λ s. absurd (omega arith); only_passed = λ t. inr (inr (inr refl)); never_more = h }
-
-disk_code : (end : ServeEnd) → end ≡ Disk → code_of (status_of end) ≡ 5
-disk_code end e = ap (λ x. code_of (status_of x)) e
-
--- a run by its status
-pub runs_from : {D : Type 0} (tells : Type 0) (stands : D → Standing) (moment : D → ℕ) (old : D) (served : Served D) (status : Status) (setting : Setting) (s : State) (limit : ℕ) (left_old left_new : Option (List ℕ))
-    (pieces_old pieces_new : Option (List Piece)) (taken : List ℕ) (over : Bool) (added : List Piece) → status ≡ status_of served.end → Runs tells stands moment old served setting s limit left_old left_new pieces_old pieces_new taken over added
-    → RunsFrom tells stands moment old served.disk (code_of status) setting s limit left_old left_new pieces_old pieces_new taken over added
-runs_from tells stands moment old served status setting s limit left_old left_new pieces_old pieces_new taken over added is r =
-    let ls = lines (take limit taken) over in
-    let by = by_status served.end limit (length taken) over (bytes_of added ≡ transcript setting 1 s ls) (tells → StandsFor (stands served.disk) (state_after setting s ls)) r.whole in
-    let from : RunsFrom tells stands moment old served.disk (code_of (status_of served.end)) setting s limit left_old left_new pieces_old pieces_new taken over added = record {
-      takes = r.takes;
-      is_over = r.ended;
-      adds = r.adds;
-      times = r.ran.times;
-      output = r.ran.output;
-      done = by.done;
-      read = by.read;
-      passed = by.passed;
-      only_passed = by.only_passed;
-      never_more = by.never_more;
-      holds = λ told. holds_weaker (served.end ≡ Disk) (code_of (status_of served.end) ≡ 5) setting 1 s ls (bytes_of added) (stands served.disk) (disk_code served.end) (r.ran.holds told);
-    } in
-    subst (λ x. RunsFrom tells stands moment old served.disk (code_of x) setting s limit left_old left_new pieces_old pieces_new taken over added) (sym is) from
+-- the number tells the same as the end
+pub ending_code : (end : ServeEnd) → ending_by (code_of (status_of end)) ≡ ending_of end
+ending_code Done = refl
+ending_code Read = refl
+ending_code Write = refl
+ending_code Disk = refl
+ending_code Memory = refl
+ending_code (InputLimit n) = refl
+ending_code (TooBig hit) = refl
 
 -- no end of serving has the status of words that aren't understood
 pub not_words : (end : ServeEnd) → code_of (status_of end) ≡ 2 → ⊥
@@ -65,16 +33,7 @@ not_words Write e = absurd (omega arith)
 not_words Disk e = absurd (omega arith)
 not_words Memory e = absurd (omega arith)
 not_words (InputLimit n) e = absurd (omega arith)
-
--- the cause of a status
-pub status_cause : (end : ServeEnd) (source_old source_new sink_old sink_new disk_old disk_new : ℕ) → EndCause end source_old source_new sink_old sink_new disk_old disk_new
-    → StatusCause (code_of (status_of end)) source_old source_new sink_old sink_new disk_old disk_new
-status_cause Done so sn ko kn d e h = record { source = h.source; sink = h.sink; disk = h.disk }
-status_cause Read so sn ko kn d e h = record { source = h.source; sink = h.sink; disk = h.disk }
-status_cause Write so sn ko kn d e h = record { source = h.source; sink = h.sink; disk = h.disk }
-status_cause Disk so sn ko kn d e h = record { source = h.source; sink = h.sink; disk = h.disk }
-status_cause Memory so sn ko kn d e h = record { source = h.source; sink = h.sink; disk = h.disk }
-status_cause (InputLimit n) so sn ko kn d e h = record { source = h.source; sink = h.sink; disk = h.disk }
+not_words (TooBig hit) e = absurd (omega arith)
 
 pub is_status : (status : Status) → IsStatus (code_of status)
 is_status statuses.Done = inl refl
@@ -83,13 +42,61 @@ is_status statuses.Read = inr (inr (inl refl))
 is_status statuses.Write = inr (inr (inr (inl refl)))
 is_status statuses.Disk = inr (inr (inr (inr (inl refl))))
 is_status statuses.Memory = inr (inr (inr (inr (inr (inl refl)))))
-is_status statuses.InputLimit = inr (inr (inr (inr (inr (inr refl)))))
+is_status (statuses.TooBig hit) = inr (inr (inr (inr (inr (inr (inl refl))))))
+is_status statuses.InputLimit = inr (inr (inr (inr (inr (inr (inr refl))))))
 
-pub line_by_code : (limit : ℕ) (status : Status) → line_for limit (code_of status) ≡ line_of limit status
-line_by_code limit statuses.Done = refl
-line_by_code limit statuses.Words = refl
-line_by_code limit statuses.Read = refl
-line_by_code limit statuses.Write = refl
-line_by_code limit statuses.Disk = refl
-line_by_code limit statuses.Memory = refl
-line_by_code limit statuses.InputLimit = refl
+-- the limit that an end tells, by its status
+pub hit_told : (told : Option Standing) (limits : Limits) (end : ServeEnd) → TellsHit told limits end → IsHitOf told limits (status_of end)
+hit_told told limits Done h hit e = cc
+hit_told told limits Read h hit e = cc
+hit_told told limits Write h hit e = cc
+hit_told told limits Disk h hit e = cc
+hit_told told limits Memory h hit e = cc
+hit_told told limits (InputLimit n) h hit e = cc
+hit_told told limits (TooBig found) h hit e = h hit (ap TooBig (hit_of e))
+  where
+    hit_in : Status → Hit
+    hit_in (statuses.TooBig x) = x
+    hit_in other = hit
+
+    hit_of : status_of (TooBig found) ≡ statuses.TooBig hit → found ≡ hit
+    hit_of g = ap hit_in g
+
+-- the limit that a status names, and any for the others
+abbrev pub named : Status → Hit
+named (statuses.TooBig hit) = hit
+named other = record { which = Files; would_be = 0 }
+
+pub named_first : (told : Option Standing) (limits : Limits) (status : Status) → IsHitOf told limits status → code_of status ≡ 8 → WhereTold told (λ s. start_hit limits s.reading.files ≡ Some (named status))
+named_first told limits statuses.Done h e = absurd (omega arith)
+named_first told limits statuses.Words h e = absurd (omega arith)
+named_first told limits statuses.Read h e = absurd (omega arith)
+named_first told limits statuses.Write h e = absurd (omega arith)
+named_first told limits statuses.Disk h e = absurd (omega arith)
+named_first told limits statuses.Memory h e = absurd (omega arith)
+named_first told limits (statuses.TooBig hit) h e = h hit refl
+named_first told limits statuses.InputLimit h e = absurd (omega arith)
+
+pub line_by_code : (most : ℕ) (status : Status) → line_for most (named status) (code_of status) ≡ line_of most status
+line_by_code most statuses.Done = refl
+line_by_code most statuses.Words = refl
+line_by_code most statuses.Read = refl
+line_by_code most statuses.Write = refl
+line_by_code most statuses.Disk = refl
+line_by_code most statuses.Memory = refl
+line_by_code most (statuses.TooBig hit) = refl
+line_by_code most statuses.InputLimit = refl
+
+-- the number of a status says what the end does
+pub ending_is : (end : ServeEnd) (status : Status) → status ≡ status_of end → ending_by (code_of status) ≡ ending_of end
+ending_is end status is = ap (λ (x : Status). ending_by (code_of x)) is ∙ ending_code end
+
+-- a run by its status
+pub by_code : (root given : Parts) (limits : Limits) (most : ℕ) (before now : Scene) (end : ServeEnd) (status : Status) → given ≡ root → status ≡ status_of end
+    → RunsEdits given limits most before now (ending_of end) → RunsEdits root limits most before now (ending_by (code_of status))
+by_code root given limits most before now end status e is run =
+    subst (λ (r : Parts). RunsEdits r limits most before now (ending_by (code_of status))) e
+    (subst (λ (x : Ending). RunsEdits given limits most before now x) (sym (ending_is end status is)) run)
+
+pub same_root : (a b : Parts) → ◌≡◌ {A = Option Parts} (Some a) (Some b) → a ≡ b
+same_root a b e = cc

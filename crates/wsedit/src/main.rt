@@ -6,7 +6,7 @@ mod status;
 mod words;
 
 use crate::status::Status;
-pub use program::{Bounds, Ended, run, run_within};
+pub use program::{Ended, run, run_within};
 use std::env;
 use std::io::ErrorKind;
 use std::process::ExitCode;

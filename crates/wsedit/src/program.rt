@@ -1,15 +1,13 @@
 // The whole program over any source, sinks and disk.
-ghost use Rattle.std.specs.Prelude.{◌≡◌, ◌⊎◌, ◌^◌, ◌≤◌, List, ℕ, Bool, Some, None};
+ghost use Rattle.std.specs.Prelude.{◌≡◌, ◌⊎◌, None, Some};
 ghost use Rattle.url.specs.Parts.{Parts};
-ghost use Rattle.wse_path.specs.Causes.{Rose};
 ghost use Rattle.wse_path.specs.Limits.{standard};
-ghost use Rattle.wse_io.specs.Stream.{Piece, Adds, IsPrefix, bytes_of};
-ghost use Rattle.wse_uri.specs.FileUrl.{IsPlainFileUrl};
-ghost use Rattle.wse_serve.specs.Machine.{State};
-ghost use Rattle.wse_serve.specs.Run.{Runs, IsStart, EndCause, Lasts};
-ghost use Rattle.wsedit.specs.Status.{code_of, line_for};
+ghost use Rattle.wse_serve.specs.Scene.{disk_at, scene, faults, Lasts};
+ghost use Rattle.wse_serve.specs.Ending.{ending_of, HasCauses};
+ghost use Rattle.wse_serve.specs.Start.{RunsEdits, TellsHit};
+ghost use Rattle.wsedit.specs.Status.{code_of, IsStatus, IsLineFor, IsHitOf, TellsLine, ending_by};
 ghost use Rattle.wsedit.specs.Words.{texts_of, run_root};
-ghost use Rattle.wsedit.specs.Program.{most_input, RunsFrom, StatusCause, IsStatus};
+ghost use Rattle.wsedit.specs.Program.{most_input};
 
 use crate::status::Status;
 use crate::words::{RunWords, read_words};
@@ -17,7 +15,7 @@ use std::alloc::Global;
 use wse_disk::Place;
 use wse_io::{Sink, Source};
 use wse_path::{Limits, Memory};
-use wse_serve::{ServeEnd, Served, Setting, serve_disk};
+use wse_serve::{Bounds, ServeEnd, Served, Setting, serve_disk};
 
 /// The most bytes of input.
 const MAX_INPUT: u64 = 4_294_967_296;
@@ -29,13 +27,6 @@ pub struct Ended<D: Place> {
     pub disk: D,
 }
 
-/// How many bytes are read as lines at most, and how many edits may change the tree.
-#[derive(Clone, Copy)]
-pub struct Bounds {
-    pub max_input: u64,
-    pub max_serial: u64,
-}
-
 /// Places the disk where the words say, and answers the lines of the source over the tree that it holds there.
 fn place_and_serve<S: Source, K: Sink, D: Place>(
     alloc: Global,
@@ -45,17 +36,15 @@ fn place_and_serve<S: Source, K: Sink, D: Place>(
     disk: D,
     bounds: Bounds,
 ) -> Served<D>
-    requires some { 1 ≤ bounds.max_input }
-    requires countable { bounds.max_input ≤ 2 ^ 62 }
-    requires bounded { bounds.max_serial ≤ standard.serial }
-    requires root { IsPlainFileUrl words.root }
-    ensures run { (s : State) × (taken : List ℕ) × (over : Bool) × (added : List Piece)
-        × IsStart D.tells (D.stands disk) s
-        × Runs D.tells D.stands D.moment_of disk result (record { root = words.entry.root; serial = bounds.max_serial }) s
-        bounds.max_input (S.left source.old) (S.left source.new) (K.pieces out.old) (K.pieces out.new) taken over added }
-    ensures lasts { D.tells → Lasts (D.stands disk) (D.stands result.disk) (result.end ≡ ServeEnd.Disk) }
-    ensures causes { EndCause result.end (S.faults source.old) (S.faults source.new) (K.faults out.old)
-        (K.faults out.new) (D.faults disk) (D.faults result.disk) }
+    ensures run { RunsEdits words.entry.root bounds.limits bounds.max_input
+        (scene (S.left source.old) (K.pieces out.old) (disk_at D.moment_of D.told disk))
+        (scene (S.left source.new) (K.pieces out.new) (disk_at D.moment_of D.told result.disk))
+        (ending_of result.end) }
+    ensures too_big { TellsHit (D.told disk) bounds.limits result.end }
+    ensures lasts { Lasts (D.told disk) (D.told result.disk) (ending_of result.end).disk }
+    ensures causes { HasCauses (ending_of result.end)
+        (faults (S.faults source.old) (K.faults out.old) (D.faults disk))
+        (faults (S.faults source.new) (K.faults out.new) (D.faults result.disk)) }
 {
     let mut disk = disk;
     let Ok(()) = disk.place(words.tree, words.store) else {
@@ -66,9 +55,9 @@ fn place_and_serve<S: Source, K: Sink, D: Place>(
     };
     let setting = Setting {
         root: words.root,
-        serial: bounds.max_serial,
+        bounds,
     };
-    serve_disk(alloc, disk, &setting, source, out, bounds.max_input)
+    serve_disk(alloc, disk, &setting, source, out)
 }
 
 // How a run ended, before that is told.
@@ -86,21 +75,19 @@ fn run_words<S: Source, K: Sink, D: Place>(
     disk: D,
     bounds: Bounds,
 ) -> Outcome<D>
-    requires some { 1 ≤ bounds.max_input }
-    requires countable { bounds.max_input ≤ 2 ^ 62 }
-    requires bounded { bounds.max_serial ≤ standard.serial }
     ensures words { code_of result.status ≡ 2 → run_root (texts_of words.now) ≡ None }
     ensures untouched { run_root (texts_of words.now) ≡ None → ((code_of result.status ≡ 2) ⊎ (code_of result.status ≡ 6))
         × (result.disk ≡ disk) × (source.new ≡ source.old) × (out.new ≡ out.old) }
     ensures run { (root : Parts) → run_root (texts_of words.now) ≡ Some root
-        → (s : State) × (taken : List ℕ) × (over : Bool) × (added : List Piece)
-        × IsStart D.tells (D.stands disk) s
-        × RunsFrom D.tells D.stands D.moment_of disk result.disk (code_of result.status)
-        (record { root = root; serial = bounds.max_serial }) s bounds.max_input
-        (S.left source.old) (S.left source.new) (K.pieces out.old) (K.pieces out.new) taken over added }
-    ensures lasts { D.tells → Lasts (D.stands disk) (D.stands result.disk) (code_of result.status ≡ 5) }
-    ensures causes { StatusCause (code_of result.status) (S.faults source.old) (S.faults source.new) (K.faults
-        out.old) (K.faults out.new) (D.faults disk) (D.faults result.disk) }
+        → RunsEdits root bounds.limits bounds.max_input
+        (scene (S.left source.old) (K.pieces out.old) (disk_at D.moment_of D.told disk))
+        (scene (S.left source.new) (K.pieces out.new) (disk_at D.moment_of D.told result.disk))
+        (ending_by (code_of result.status)) }
+    ensures too_big { IsHitOf (D.told disk) bounds.limits result.status }
+    ensures lasts { Lasts (D.told disk) (D.told result.disk) (ending_by (code_of result.status)).disk }
+    ensures causes { HasCauses (ending_by (code_of result.status))
+        (faults (S.faults source.old) (K.faults out.old) (D.faults disk))
+        (faults (S.faults source.new) (K.faults out.new) (D.faults result.disk)) }
 {
     match read_words(alloc, words) {
         Ok(None) => Outcome {
@@ -125,6 +112,7 @@ fn run_words<S: Source, K: Sink, D: Place>(
 /// - Status 2: the words aren't `run TREE STORE ROOT`. Nothing is touched.
 /// - Status 3, 4, 5: the source, `out` or the disk failed.
 /// - Status 6: there was no memory.
+/// - Status 8: the tree that the disk holds passes a limit. No line is read.
 /// - Status 9: the source gave one byte past the limit.
 pub fn run_within<S: Source, K: Sink, E: Sink, D: Place>(
     alloc: Global,
@@ -135,25 +123,21 @@ pub fn run_within<S: Source, K: Sink, E: Sink, D: Place>(
     disk: D,
     bounds: Bounds,
 ) -> Ended<D>
-    requires some { 1 ≤ bounds.max_input }
-    requires countable { bounds.max_input ≤ 2 ^ 62 }
-    requires bounded { bounds.max_serial ≤ standard.serial }
     ensures words { result.status ≡ 2 → run_root (texts_of words.now) ≡ None }
     ensures untouched { run_root (texts_of words.now) ≡ None → ((result.status ≡ 2) ⊎ (result.status ≡ 6))
         × (result.disk ≡ disk) × (source.new ≡ source.old) × (out.new ≡ out.old) }
     ensures run { (root : Parts) → run_root (texts_of words.now) ≡ Some root
-        → (s : State) × (taken : List ℕ) × (over : Bool) × (added : List Piece)
-        × IsStart D.tells (D.stands disk) s
-        × RunsFrom D.tells D.stands D.moment_of disk result.disk result.status
-        (record { root = root; serial = bounds.max_serial }) s bounds.max_input
-        (S.left source.old) (S.left source.new) (K.pieces out.old) (K.pieces out.new) taken over added }
-    ensures lasts { D.tells → Lasts (D.stands disk) (D.stands result.disk) (result.status ≡ 5) }
-    ensures causes { StatusCause result.status (S.faults source.old) (S.faults source.new) (K.faults out.old)
-        (K.faults out.new) (D.faults disk) (D.faults result.disk) }
+        → RunsEdits root bounds.limits bounds.max_input
+        (scene (S.left source.old) (K.pieces out.old) (disk_at D.moment_of D.told disk))
+        (scene (S.left source.new) (K.pieces out.new) (disk_at D.moment_of D.told result.disk))
+        (ending_by result.status) }
+    ensures lasts { Lasts (D.told disk) (D.told result.disk) (ending_by result.status).disk }
+    ensures causes { HasCauses (ending_by result.status)
+        (faults (S.faults source.old) (K.faults out.old) (D.faults disk))
+        (faults (S.faults source.new) (K.faults out.new) (D.faults result.disk)) }
     ensures statuses { IsStatus result.status }
-    ensures told { (told : List Piece) × Adds (E.pieces errs.old) (E.pieces errs.new) told
-        × IsPrefix (bytes_of told) (line_for bounds.max_input result.status)
-        × ((bytes_of told ≡ line_for bounds.max_input result.status) ⊎ Rose (E.faults errs.old) (E.faults errs.new)) }
+    ensures told { TellsLine (IsLineFor (D.told disk) bounds.limits bounds.max_input result.status)
+        (E.pieces errs.old) (E.pieces errs.new) (E.faults errs.old) (E.faults errs.new) }
 {
     let Outcome { status, disk } = run_words(alloc, words, source, out, disk, bounds);
     // A fault of errs changes no status.
@@ -164,8 +148,8 @@ pub fn run_within<S: Source, K: Sink, E: Sink, D: Place>(
     }
 }
 
-/// Runs what the words say, and tells of the end at `errs`: `run_within` with 4,294,967,296 bytes of input at most, and as
-/// many edits that change the tree as the standard limits let pass.
+/// Runs what the words say, and tells of the end at `errs`: `run_within` with 4,294,967,296 bytes of input at most, and the
+/// standard limits.
 pub fn run<S: Source, K: Sink, E: Sink, D: Place>(
     alloc: Global,
     words: &[String],
@@ -178,22 +162,21 @@ pub fn run<S: Source, K: Sink, E: Sink, D: Place>(
     ensures untouched { run_root (texts_of words.now) ≡ None → ((result.status ≡ 2) ⊎ (result.status ≡ 6))
         × (result.disk ≡ disk) × (source.new ≡ source.old) × (out.new ≡ out.old) }
     ensures run { (root : Parts) → run_root (texts_of words.now) ≡ Some root
-        → (s : State) × (taken : List ℕ) × (over : Bool) × (added : List Piece)
-        × IsStart D.tells (D.stands disk) s
-        × RunsFrom D.tells D.stands D.moment_of disk result.disk result.status
-        (record { root = root; serial = standard.serial }) s most_input
-        (S.left source.old) (S.left source.new) (K.pieces out.old) (K.pieces out.new) taken over added }
-    ensures lasts { D.tells → Lasts (D.stands disk) (D.stands result.disk) (result.status ≡ 5) }
-    ensures causes { StatusCause result.status (S.faults source.old) (S.faults source.new) (K.faults out.old)
-        (K.faults out.new) (D.faults disk) (D.faults result.disk) }
+        → RunsEdits root standard most_input
+        (scene (S.left source.old) (K.pieces out.old) (disk_at D.moment_of D.told disk))
+        (scene (S.left source.new) (K.pieces out.new) (disk_at D.moment_of D.told result.disk))
+        (ending_by result.status) }
+    ensures lasts { Lasts (D.told disk) (D.told result.disk) (ending_by result.status).disk }
+    ensures causes { HasCauses (ending_by result.status)
+        (faults (S.faults source.old) (K.faults out.old) (D.faults disk))
+        (faults (S.faults source.new) (K.faults out.new) (D.faults result.disk)) }
     ensures statuses { IsStatus result.status }
-    ensures told { (told : List Piece) × Adds (E.pieces errs.old) (E.pieces errs.new) told
-        × IsPrefix (bytes_of told) (line_for most_input result.status)
-        × ((bytes_of told ≡ line_for most_input result.status) ⊎ Rose (E.faults errs.old) (E.faults errs.new)) }
+    ensures told { TellsLine (IsLineFor (D.told disk) standard most_input result.status)
+        (E.pieces errs.old) (E.pieces errs.new) (E.faults errs.old) (E.faults errs.new) }
 {
     let bounds = Bounds {
         max_input: MAX_INPUT,
-        max_serial: Limits::standard().serial,
+        limits: Limits::standard(),
     };
     run_within(alloc, words, source, out, errs, disk, bounds)
 }

@@ -1,12 +1,14 @@
 // How a run ends, as a status and as a line for people.
-ghost use Rattle.std.specs.Prelude.{◌≡◌, List, OnOk};
+ghost use Rattle.std.specs.Prelude.{◌≡◌, ◌++◌, List, OnOk, codes, decimal};
 ghost use Rattle.wse_path.specs.Causes.{HasCause};
 ghost use Rattle.wse_io.specs.Stream.{Piece, Adds, IsPrefix, bytes_of};
-ghost use Rattle.wsedit.specs.Status.{code_of, status_of, line_of, limit_line};
+ghost use Rattle.wse_serve.specs.Limits.{limit_name};
+ghost use Rattle.wsedit.specs.Status.{code_of, status_of, line_of};
 
 use itoa::Buffer;
 use wse_disk::Disk;
 use wse_io::{Sink, WriteFailed, emit_all};
+use wse_path::{Hit, Which};
 use wse_serve::ServeEnd;
 
 /// How a run ended.
@@ -24,6 +26,8 @@ pub enum Status {
     Disk,
     /// There was no memory.
     Memory,
+    /// The tree passes a limit.
+    TooBig(Hit),
     /// The input was longer than its limit.
     InputLimit,
 }
@@ -40,6 +44,7 @@ impl Status {
             Status::Write => 4,
             Status::Disk => 5,
             Status::Memory => 6,
+            Status::TooBig(_) => 8,
             Status::InputLimit => 9,
         }
     }
@@ -55,6 +60,7 @@ impl Status {
             ServeEnd::Disk => Status::Disk,
             ServeEnd::Memory => Status::Memory,
             ServeEnd::InputLimit { .. } => Status::InputLimit,
+            ServeEnd::TooBig(hit) => Status::TooBig(hit),
         }
     }
 
@@ -77,23 +83,53 @@ impl Status {
             Status::Write => emit_all(errs, disk, b"wsedit: writing failed\n"),
             Status::Disk => emit_all(errs, disk, b"wsedit: disk failed\n"),
             Status::Memory => emit_all(errs, disk, b"wsedit: out of memory\n"),
-            Status::InputLimit => tell_limit(errs, disk, max_input),
+            Status::TooBig(hit) => {
+                emit_number(errs, disk, too_big_words(hit.which), hit.would_be, "\n")
+            }
+            Status::InputLimit => emit_number(
+                errs,
+                disk,
+                "wsedit: input past ",
+                max_input,
+                " bytes\n",
+            ),
         }
     }
 }
 
-fn tell_limit<E: Sink, D: Disk>(errs: &mut E, disk: &D, max_input: u64) -> Result<(), WriteFailed>
+/// The words before the number that passes a starting tree's limit.
+fn too_big_words(which: Which) -> &'static str
+    ensures { result.now ≡ codes "wsedit: too big: " ++ (limit_name which ++ codes " ") }
+{
+    match which {
+        Which::Files => "wsedit: too big: files ",
+        Which::FileBytes => "wsedit: too big: file bytes ",
+        Which::TreeBytes => "wsedit: too big: tree bytes ",
+        Which::Known => "wsedit: too big: known ",
+        Which::Weight => "wsedit: too big: weight ",
+        Which::Serial => "wsedit: too big: serial ",
+    }
+}
+
+/// Emits the words before a number, the number, and the words behind it.
+fn emit_number<E: Sink, D: Disk>(
+    errs: &mut E,
+    disk: &D,
+    before: &str,
+    number: u64,
+    behind: &str,
+) -> Result<(), WriteFailed>
     ensures told { (told : List Piece) × Adds (E.pieces errs.old) (E.pieces errs.new) told
-        × IsPrefix (bytes_of told) (limit_line max_input)
-        × OnOk result (bytes_of told ≡ limit_line max_input) }
+        × IsPrefix (bytes_of told) (before.now ++ (decimal number ++ behind.now))
+        × OnOk result (bytes_of told ≡ before.now ++ (decimal number ++ behind.now)) }
     ensures cause { HasCause (E.faults errs.old) (E.faults errs.new) result }
 {
     let mut buffer = Buffer::new();
-    let Ok(()) = emit_all(errs, disk, b"wsedit: input past ") else {
+    let Ok(()) = emit_all(errs, disk, before.as_bytes()) else {
         return Err(WriteFailed);
     };
-    let Ok(()) = emit_all(errs, disk, buffer.format(max_input).as_bytes()) else {
+    let Ok(()) = emit_all(errs, disk, buffer.format(number).as_bytes()) else {
         return Err(WriteFailed);
     };
-    emit_all(errs, disk, b" bytes\n")
+    emit_all(errs, disk, behind.as_bytes())
 }

@@ -15,6 +15,7 @@ pub struct RunWords<'a> {
     pub tree: &'a str,
     pub store: &'a str,
     pub root: Url,
+    ghost plain: { IsPlainFileUrl root },
 }
 
 /// The URL that ROOT is, or None where it is no root.
@@ -32,7 +33,6 @@ fn read_root(alloc: Global, text: &str) -> Result<Option<Url>, Memory>
 /// What the words say, or None where they aren't understood.
 pub fn read_words(alloc: Global, words: &[String]) -> Result<Option<RunWords<'_>>, Memory>
     ensures root { IfOk result (λ run. option_map (λ r. r.root) run ≡ run_root (texts_of words.now)) }
-    ensures plain { IfOk result (λ run. IfSome run (λ r. IsPlainFileUrl r.root)) }
 {
     let [command, tree, store, root] = words else {
         return Ok(None);

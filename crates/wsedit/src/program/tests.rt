@@ -1,12 +1,9 @@
 // The statuses of runs and their lines at errs, over objects in memory; and where the disk is placed.
-ghost use Rattle.std.specs.Prelude.{◌^◌, ◌≤◌};
-ghost use Rattle.wse_path.specs.Limits.{standard};
-
 use super::*;
 use std::test::Fail;
-use wse_disk::{Disk, Failed, MemDisk, ReadErr};
+use wse_disk::{Area, Disk, Failed, MemDisk, ReadErr};
 use wse_io::{MemSink, MemSource};
-use wse_path::{RelPath, Tree};
+use wse_path::{Bytes, RelPath, Tree};
 
 const GOOD_WORDS: &str = "run t s file:///w";
 
@@ -27,7 +24,7 @@ const CREATED_THEN_EXISTS: &str =
 {"applied":false,"changed":{},"element":null,"failedChange":0,"failureReason":"exists","n":2,"skipped":[]}
 "#;
 
-const NOT_BUILT: &str = "{\"n\":1,\"refused\":\"not built\"}\n";
+const NO_VERB: &str = "{\"at\":\"/do\",\"n\":1,\"refused\":\"field\"}\n";
 
 /// What a run works on, beside its input. The call with the number of a `fails` fails; 0 is none.
 #[derive(Clone, Copy)]
@@ -71,14 +68,10 @@ fn sink_of(alloc: Global, fails: u64) -> Result<MemSink, Fail> {
     Ok(MemSink::new(alloc, 65_536, [fails].to_vec(alloc)?))
 }
 
-fn bounds_of(case: &Case) -> Bounds
-    ensures some { 1 ≤ result.max_input }
-    ensures countable { result.max_input ≤ 2 ^ 62 }
-    ensures bounded { result.max_serial ≤ standard.serial }
-{
+fn bounds_of(case: &Case) -> Bounds {
     Bounds {
         max_input: case.max_input.max(1).min(1_000_000),
-        max_serial: 10,
+        limits: Limits::standard(),
     }
 }
 
@@ -233,7 +226,7 @@ fn input_is_too_long(alloc: Global) -> Result<bool, Fail> {
         &case,
         "{}\n{}\n",
         9,
-        NOT_BUILT,
+        NO_VERB,
         "wsedit: input past 5 bytes\n",
         0,
     )
@@ -243,9 +236,60 @@ fn input_is_too_long(alloc: Global) -> Result<bool, Fail> {
 fn a_fault_has_its_status_and_line(rt: HostRuntime) -> Result<(), Fail> {
     let alloc = rt.alloc();
     assert!(rt; second_read_fails(alloc, CREATE_A_TWICE, CREATED_THEN_EXISTS, 1)?);
-    assert!(rt; second_read_fails(alloc, "{}\n", NOT_BUILT, 0)?);
+    assert!(rt; second_read_fails(alloc, "{}\n", NO_VERB, 0)?);
     assert!(rt; second_answer_fails(alloc)?);
     assert!(rt; input_is_too_long(alloc)?);
+    Ok(())
+}
+
+fn path_of(alloc: Global, name: &str) -> Result<RelPath, Fail> {
+    let mut segments = Vec::new(alloc);
+    segments.push(String::from_str(alloc, name)?)?;
+    Ok(RelPath::new(segments)?)
+}
+
+fn put_empty(alloc: Global, tree: &mut Tree, name: &str) -> Result<(), Fail> {
+    let path = path_of(alloc, name)?;
+    if !tree.fits(&path) {
+        return Err(Fail::new("no room for the file"));
+    }
+    tree.put(path, Bytes::new(Vec::new(alloc)))?;
+    Ok(())
+}
+
+/// A disk with two files, which may have one.
+fn two_files_are_too_many(alloc: Global) -> Result<bool, Fail> {
+    let words = words_of(alloc, GOOD_WORDS)?;
+    let mut tree = Tree::new(alloc);
+    put_empty(alloc, &mut tree, "a")?;
+    put_empty(alloc, &mut tree, "b")?;
+    let disk = MemDisk::new(alloc, tree, Vec::new(alloc));
+    let mut source = MemSource::new(CREATE_A.as_bytes().to_vec(alloc)?, 65_536, Vec::new(alloc));
+    let mut out = sink_of(alloc, 0)?;
+    let mut errs = sink_of(alloc, 0)?;
+    let bounds = Bounds {
+        max_input: 1_000_000,
+        limits: Limits {
+            files: 1,
+            ..Limits::standard()
+        },
+    };
+    let Ended { status, disk: _ } = run_within(
+        alloc,
+        &words,
+        &mut source,
+        &mut out,
+        &mut errs,
+        disk,
+        bounds,
+    );
+    let told = errs.bytes() == b"wsedit: too big: files 2\n".as_slice();
+    Ok(status == 8 && told && out.bytes().is_empty())
+}
+
+#[test]
+fn a_tree_that_is_too_big_has_status_8(rt: HostRuntime) -> Result<(), Fail> {
+    assert!(rt; two_files_are_too_many(rt.alloc())?);
     Ok(())
 }
 
@@ -253,6 +297,7 @@ fn a_fault_has_its_status_and_line(rt: HostRuntime) -> Result<(), Fail> {
 /// was read before that.
 #[derive(Drop)]
 struct Blank {
+    faults: u64,
     places: u8,
     as_said: bool,
     read_too_early: bool,
@@ -261,9 +306,11 @@ struct Blank {
 impl Disk for Blank {
     ghost moment_of = { λ _. 0 };
 
-    ghost faults = { λ _. 0 };
+    ghost faults = { λ d. d.faults };
 
-    ghost reads_a_tree = { λ d told. absurd told };
+    ghost reads_an_image = { λ _. tt };
+
+    ghost counts_moments = { λ _. tt };
 
     fn moment(&self) -> u64 {
         0
@@ -296,6 +343,19 @@ impl Disk for Blank {
         Ok(())
     }
 
+    fn area_len(&mut self, _area: Area) -> Result<u64, Failed> {
+        Ok(0)
+    }
+
+    fn area_read(&mut self, _area: Area, _at: u64, _into: &mut [u8]) -> Result<(), Failed> {
+        Ok(())
+    }
+
+    fn area_write(&mut self, _area: Area, _at: u64, _bytes: &[u8]) -> Result<(), Failed> {
+        self.faults = self.faults.saturating_add(1);
+        Err(Failed)
+    }
+
     fn sync(&mut self) -> Result<(), Failed> {
         Ok(())
     }
@@ -312,6 +372,7 @@ impl Place for Blank {
 fn placed_by(alloc: Global, words: &str) -> Result<Blank, Fail> {
     let words = words_of(alloc, words)?;
     let disk = Blank {
+        faults: 0,
         places: 0,
         as_said: false,
         read_too_early: false,

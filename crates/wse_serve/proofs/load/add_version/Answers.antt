@@ -2,8 +2,8 @@ use Rattle.std.proofs.Common.{ℕ, [], List, take, sym, ap, ◌∙◌, arith}
 use Rattle.std.specs.Option.{option_copied}
 use Rattle.wse_path.specs.Path.{Path}
 use Rattle.wse_path.specs.Versions.{Numbers, version_of, bumped}
-use Rattle.wse_serve.specs.Machine.{first_versions}
-use Rattle.wse_serve.proofs.BumpLemmas.{first_low, first_more, key_at}
+use Rattle.wse_serve.specs.Edits.{first_versions}
+use Rattle.wse_serve.proofs.FirstLemmas.{first_low, first_more, key_at}
 use Rattle.wse_serve.proofs.load.add_version.Goals as goal
 
 pub bump-requires-clause-small : goal.bump-requires-clause-small

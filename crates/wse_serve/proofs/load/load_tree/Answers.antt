@@ -1,8 +1,9 @@
-use Rattle.std.proofs.Common.{◌++◌, ◌∷◌, [], sym, ap, ◌∙◌, append_assoc, arith}
-use Rattle.wse_path.specs.Tree.{Entries}
-use Rattle.wse_disk.specs.Calls.{Standing}
-use Rattle.wse_serve.specs.Session.{with_file}
-use Rattle.wse_serve.proofs.LoadLemmas.{loaded_more}
+use Rattle.std.proofs.Common.{◌++◌, ◌∷◌, [], sym, ap, subst, ◌∙◌, append_assoc, arith}
+use Rattle.wse_disk.specs.Calls.{ReadsNames}
+use Rattle.wse_disk.specs.Standing.{Standing}
+use Rattle.std.specs.Prelude.{Option}
+use Rattle.wse_serve.specs.Session.{LoadsFile}
+use Rattle.wse_serve.proofs.LoadLemmas.{next_loaded}
 use Rattle.wse_serve.proofs.load.load_tree.Goals as goal
 
 pub loop-path-preserved : goal.loop-path-preserved
@@ -12,15 +13,14 @@ loop-path-preserved g c =
     let before = c.loop-path.yielded in
     let path = c.in-Some.path in
     let rest = c.next.new.self.rest.items in
+    let told = g.D.Disk.told c.names.new.self in
+    let all = ap (λ l. before ++ l) step in
     record {
-      same = λ told. c.in_ok-load_file.ensures.same told ∙ inv.same told;
+      same = c.in_ok-load_file.ensures.same ∙ inv.same;
       later = omega (arith, inv.later, c.in_ok-load_file.ensures.later);
       faults = c.in_ok-load_file.ensures.cause.kept ∙ inv.faults;
-      paths = λ told. inv.paths told ∙ ap (λ l. before ++ l) step ∙ sym (append_assoc before (path ∷ []) rest);
-      loaded = λ told.
-          let all = (g.D.Disk.stands c.names.new.self).reading.files in
-          c.in_ok-load_file.ensures.loaded told
-          ∙ ap (λ (d : Standing). with_file d.reading.files c.loop-path.tree.files path) (inv.same told)
-          ∙ ap (λ (files : Entries). with_file all files path) (inv.loaded told)
-          ∙ loaded_more all before path rest (g.met.D.Disk.reads_a_tree c.names.new.self told) (inv.paths told ∙ ap (λ l. before ++ l) step);
+      paths = subst (ReadsNames told) (all ∙ sym (append_assoc before (path ∷ []) rest)) inv.paths;
+      loaded = next_loaded told before path rest c.loop-path.tree.files c.load_file.new.tree.files (g.met.D.Disk.reads_an_image c.names.new.self)
+          (subst (ReadsNames told) all inv.paths) inv.loaded
+          (subst (λ (t : Option Standing). LoadsFile t path c.loop-path.tree.files c.load_file.new.tree.files) inv.same c.in_ok-load_file.ensures.loaded);
     }

@@ -1,5 +1,5 @@
 use Rattle.std.proofs.Common.{◌≡◌, ◌≤◌, ◌+◌, length, take}
-use Rattle.wse_serve.specs.Machine.{first_versions}
+use Rattle.wse_serve.specs.Edits.{first_versions}
 use Rattle.wse_serve.proofs.load.load_versions.Given as goal
 
 abbrev pub invariant-loop-index : goal.invariant-loop-index

@@ -1,15 +1,17 @@
-use Rattle.std.proofs.Common.{◌∷◌, ◌++◌, [], Ok, Err, true, refl, sym, ap, subst, ◌∙◌, arith}
-use Rattle.std.specs.Prelude.{IsTrue}
-use Rattle.wse_io.specs.Reader.{Hands, is_over}
+use Rattle.std.proofs.Common.{◌∷◌, ◌++◌, [], Ok, Err, refl, sym, ap, subst, ◌∙◌, arith}
+use Rattle.wse_io.specs.Reader.{Hands}
 use Rattle.wse_io.specs.declared.lines.Line.TheVariants.{Text}
-use Rattle.wse_serve.specs.Session.{state_of}
 use Rattle.wse_io.specs.declared.lines.Ahead.TheVariants.{Failed}
-use Rattle.wse_serve.specs.Run.{is_disk_fault, EndCause}
+use Rattle.wse_serve.specs.Edits.{edits}
+use Rattle.wse_serve.specs.Scene.{disk_at, faults}
+use Rattle.wse_serve.specs.Session.{state_of}
+use Rattle.wse_serve.specs.Serving.{is_disk_fault, is_write_fault, end_of_one, fault_disk}
+use Rattle.wse_serve.specs.Causes.{CountsFault}
+use Rattle.wse_serve.specs.Ending.{ending_of, HasCauses}
 use Rattle.wse_serve.proofs.CauseLemmas.{rose_either}
-use Rattle.wse_serve.proofs.RunLemmas.{ran_weaker}
-use Rattle.wse_serve.proofs.Reading.{reads_none, reads_more}
+use Rattle.wse_serve.proofs.Reading.{reads_none, reads_more, reads_less}
 use Rattle.wse_serve.proofs.Answering.{answers_none, answers_more}
-use Rattle.wse_serve.proofs.Ending.{fault_ends, done_ends, one_ends, disk_ended, source_cause, lines_cause, failed_ahead}
+use Rattle.wse_serve.proofs.EndLemmas.{fault_ends, done_ends, one_ends, lines_started, one_started, source_cause, lines_cause, one_cause, failed_ahead}
 use Rattle.wse_serve.proofs.serving.serve.Goals as goal
 
 pub loop-line-init : goal.loop-line-init
@@ -21,9 +23,16 @@ loop-line-init g c =
       source = refl;
       fault = λ e. let open_yet = made.open in cc;
       sink = refl;
-      lasts = λ told none. none;
+      lasts = λ synced. synced;
       disk = refl;
-      so_far = ([], [], [], reads_none _ c.new-lines.result made.taken made.held made.open, answers_none g.D.Disk.tells g.D.Disk.stands g.D.Disk.moment_of _ c.args.session c.args.setting.now c.requires.sound c.requires.agrees);
+      sound = c.requires.sound;
+      so_far = (
+        [],
+        [],
+        [],
+        reads_none _ c.new-lines.result made.taken made.held made.open,
+        answers_none (edits c.args.setting.now.root c.args.setting.now.bounds.limits) _ (disk_at g.D.Disk.moment_of g.D.Disk.told c.args.session.disk) (state_of c.args.session) c.requires.agrees,
+      );
     }
 
 -- the reader failed
@@ -31,26 +40,22 @@ pub returns-in-Err-clause-run : goal.returns-in-Err-clause-run
 returns-in-Err-clause-run g c =
     let inv = c.loop-line.invariant in
     let so = inv.so_far in
-    let h = c.in-Err.ensures.hands in (
-      so.0 ++ h.0,
-      is_over c.loop-line.lines.ahead,
-      so.2,
-      fault_ends g.D.Disk.tells g.D.Disk.stands g.D.Disk.moment_of _ _ _ _ _ c.args.session.disk c.loop-line.session _ c.args.setting.now (state_of c.args.session) c.loop-line.n c.args.max_input c.loop-line.lines c.next.new.self so.0 h.0 so.1 so.2 so.3 so.4 inv.max_input
-          c.in-Err.fault h.1 c.into_disk-in-Err.ensures c.end_of.ensures,
-    )
+    let h = c.in-Err.ensures.hands in
+    let at = disk_at g.D.Disk.moment_of g.D.Disk.told in
+    fault_ends (edits c.args.setting.now.root c.args.setting.now.bounds.limits) _ _ _ _ _ (at c.args.session.disk) (at c.loop-line.session.disk) (at c.into_disk-in-Err.result) c.end_of.result
+    (state_of c.args.session) (state_of c.loop-line.session) c.loop-line.n c.args.setting.now.bounds.max_input c.loop-line.lines c.next.new.self so.0 h.0 so.1 so.2 so.3 so.4 inv.max_input
+    c.in-Err.fault h.1 (ap at c.into_disk-in-Err.ensures) c.end_of.ensures
 
 -- the input is at its end
 pub returns-in-Ok-End-clause-run : goal.returns-in-Ok-End-clause-run
 returns-in-Ok-End-clause-run g c =
     let inv = c.loop-line.invariant in
     let so = inv.so_far in
-    let h = rw c.in-Ok-End.field-0-is at c.in-Ok-End.ensures.hands in (
-      so.0 ++ h.0,
-      true,
-      so.2,
-      done_ends g.D.Disk.tells g.D.Disk.stands g.D.Disk.moment_of _ _ _ _ _ c.args.session.disk c.loop-line.session _ c.args.setting.now (state_of c.args.session) c.loop-line.n c.args.max_input c.loop-line.lines c.next.new.self so.0 h.0 so.1 so.2 so.3 so.4 inv.max_input
-          h.1 c.into_disk.ensures refl,
-    )
+    let h = rw c.in-Ok-End.field-0-is at c.in-Ok-End.ensures.hands in
+    let at = disk_at g.D.Disk.moment_of g.D.Disk.told in
+    done_ends (edits c.args.setting.now.root c.args.setting.now.bounds.limits) _ _ _ _ _ (at c.args.session.disk) (at c.loop-line.session.disk) (at c.into_disk.result) _
+    (state_of c.args.session) (state_of c.loop-line.session) c.loop-line.n c.args.setting.now.bounds.max_input c.loop-line.lines c.next.new.self so.0 h.0 so.1 so.2 so.3 so.4 inv.max_input
+    h.1 (ap at c.into_disk.ensures) refl
 
 -- a line failed
 pub returns-in-Err-serve_one-clause-run : goal.returns-in-Err-serve_one-clause-run
@@ -60,21 +65,19 @@ returns-in-Err-serve_one-clause-run g c =
     let x = c.as_slice.result.now in
     let hands = rw c.in-Ok-Text.field-0-is at c.in-Ok-Text.ensures.hands in
     let h = subst (λ l. Hands (g.S.Source.left c.loop-line.source) (g.S.Source.left c.next.new.source) c.loop-line.lines c.next.new.self hands.0 (Ok (Text l))) (sym c.as_slice.ensures) hands.1 in
-    let one = c.in-Err-serve_one.ensures.run in (
-      so.0 ++ hands.0,
-      is_over c.next.new.self.ahead,
-      so.2 ++ one.0,
-      one_ends g.D.Disk.tells g.D.Disk.stands g.D.Disk.moment_of _ _ _ _ _ c.args.session.disk c.loop-line.session _ c.args.setting.now (state_of c.args.session) c.loop-line.n c.args.max_input c.loop-line.lines c.next.new.self so.0 hands.0 so.1 so.2 so.3 so.4 inv.max_input
-          _ x c.in-Err-serve_one.fault (IsTrue (is_disk_fault {D = g.row.D.Denot} (Err c.in-Err-serve_one.fault))) one.0 h one.1 one.2 (λ failed. c.into_served.ensures.end ∙ disk_ended c.in-Err-serve_one.fault failed) c.into_served.ensures.disk c.into_served.ensures.end,
-    )
+    let one = c.in-Err-serve_one.ensures.run in
+    let at = disk_at g.D.Disk.moment_of g.D.Disk.told in
+    one_ends (edits c.args.setting.now.root c.args.setting.now.bounds.limits) _ _ _ _ _ (at c.args.session.disk) (at c.loop-line.session.disk) (at c.into_served.result.disk) c.into_served.result.end
+    (state_of c.args.session) (state_of c.loop-line.session) c.loop-line.n c.args.setting.now.bounds.max_input c.loop-line.lines c.next.new.self so.0 hands.0 so.1 so.2 so.3 so.4 inv.max_input
+    _ x c.in-Err-serve_one.fault _ one.0 h one.1 one.2 (ap at c.into_served.ensures.disk) c.into_served.ensures.end
 
 pub returns-in-Err-clause-causes : goal.returns-in-Err-clause-causes
 returns-in-Err-clause-causes g c =
     let inv = c.loop-line.invariant in
     let h = c.in-Err.ensures.hands in
     let disk = ap g.D.Disk.faults c.into_disk-in-Err.ensures ∙ inv.disk in
-    subst (λ e. EndCause e (g.S.Source.faults c.args.source.now) (g.S.Source.faults c.next.new.source) (g.K.Sink.faults c.args.out.now) (g.K.Sink.faults c.loop-line.out) (g.D.Disk.faults c.args.session.disk) (g.D.Disk.faults c.into_disk-in-Err.result)) (sym c.end_of.ensures)
-    (lines_cause c.in-Err.fault _ _ _ _ _ _
+    subst (λ e. HasCauses (ending_of e) (faults (g.S.Source.faults c.args.source.now) (g.K.Sink.faults c.args.out.now) (g.D.Disk.faults c.args.session.disk)) (faults (g.S.Source.faults c.next.new.source) (g.K.Sink.faults c.loop-line.out) (g.D.Disk.faults c.into_disk-in-Err.result))) (sym c.end_of.ensures)
+    (lines_cause c.in-Err.fault _ _
     (source_cause c.in-Err.fault _ _ _ inv.source c.in-Err.ensures.later (λ other. c.in-Err.ensures.kept (λ e. other (cc)))
     (λ e. rose_either _ _ _ _ (omega (arith, inv.source)) c.in-Err.ensures.later inv.fault (c.in-Err.ensures.cause (failed_ahead c.in-Err.fault _ _ h.1.given ∙ ap Failed e))))
     inv.sink disk)
@@ -87,19 +90,46 @@ loop-line-preserved g c =
     let hands = rw c.in-Ok-Text.field-0-is at c.in-Ok-Text.ensures.hands in
     let h = subst (λ l. Hands (g.S.Source.left c.loop-line.source) (g.S.Source.left c.next.new.source) c.loop-line.lines c.next.new.self hands.0 (Ok (Text l))) (sym c.as_slice.ensures) hands.1 in
     let one = c.in-Ok.ensures.run in
+    let at = disk_at g.D.Disk.moment_of g.D.Disk.told in
     record {
       max_input = h.limit ∙ inv.max_input;
       within = omega (arith, h.within, inv.max_input);
       source = c.in-Ok-Text.ensures.kept (λ e. cc) ∙ inv.source;
       fault = λ e. rose_either _ _ _ _ (omega (arith, inv.source)) c.in-Ok-Text.ensures.later inv.fault (c.in-Ok-Text.ensures.cause e);
       sink = c.in-Ok.ensures.cause.sink ∙ inv.sink;
-      lasts = λ told none. c.in-Ok.ensures.lasts told (inv.lasts told none);
+      lasts = λ synced. c.in-Ok.ensures.lasts (inv.lasts synced);
       disk = c.in-Ok.ensures.cause.disk ∙ inv.disk;
+      sound = c.in-Ok.ensures.sound;
       so_far = (
         so.0 ++ hands.0,
         so.1 ++ x ∷ [],
         so.2 ++ one.0,
         reads_more _ _ _ c.loop-line.lines c.next.new.self so.0 hands.0 so.1 x so.3 h,
-        answers_more g.D.Disk.tells g.D.Disk.stands g.D.Disk.moment_of _ _ _ _ c.loop-line.session c.in-Ok.session c.args.setting.now _ c.loop-line.n so.1 x so.2 one.0 so.4 one.1 (ran_weaker _ _ ⊥ _ _ _ _ _ _ _ _ (λ failed. cc) one.2) one.3 c.in-Ok.ensures.next c.in-Ok.ensures.sound c.in-Ok.ensures.agrees,
+        answers_more (edits c.args.setting.now.root c.args.setting.now.bounds.limits) _ _ _ (at c.args.session.disk) (at c.loop-line.session.disk) (at c.in-Ok.session.disk)
+            (state_of c.args.session) (state_of c.loop-line.session) (state_of c.in-Ok.session) c.loop-line.n so.1 x so.2 one.0 so.4 one.1 one.2 one.3 c.in-Ok.ensures.next c.in-Ok.ensures.agrees,
       );
     }
+
+pub returns-in-Err-clause-started : goal.returns-in-Err-clause-started
+returns-in-Err-clause-started g c = ap (λ e. (ending_of e).too_big) c.end_of.ensures ∙ lines_started c.in-Err.fault
+
+pub returns-in-Err-serve_one-clause-started : goal.returns-in-Err-serve_one-clause-started
+returns-in-Err-serve_one-clause-started g c = ap (λ e. (ending_of e).too_big) c.into_served.ensures.end ∙ one_started c.in-Err-serve_one.fault
+
+pub returns-in-Err-serve_one-clause-causes : goal.returns-in-Err-serve_one-clause-causes
+returns-in-Err-serve_one-clause-causes g c =
+    let inv = c.loop-line.invariant in
+    let cause = c.in-Err-serve_one.ensures.cause in
+    let fault = c.in-Err-serve_one.fault in
+    let before = faults (g.S.Source.faults c.args.source.now) (g.K.Sink.faults c.args.out.now) (g.D.Disk.faults c.args.session.disk) in
+    let now = λ (disk : g.row.D.Denot). faults (g.S.Source.faults c.next.new.source) (g.K.Sink.faults c.serve_one.new.out) (g.D.Disk.faults disk) in
+    subst (λ e. HasCauses (ending_of e) before (now c.into_served.result.disk)) (sym c.into_served.ensures.end)
+    (subst (λ d. HasCauses (ending_of (end_of_one fault)) before (now d)) (sym c.into_served.ensures.disk)
+    (one_cause fault before (now (fault_disk fault)) (c.in-Ok-Text.ensures.kept (λ e. cc) ∙ inv.source)
+    (subst (λ n. CountsFault (is_write_fault {D = g.row.D.Denot} (Err fault)) n (g.K.Sink.faults c.serve_one.new.out)) inv.sink cause.sink)
+    (subst (λ n. CountsFault (is_disk_fault {D = g.row.D.Denot} (Err fault)) n (g.D.Disk.faults (fault_disk fault))) inv.disk cause.disk)))
+
+pub loop-line-smaller : goal.loop-line-smaller
+loop-line-smaller g c =
+    let hands = rw c.in-Ok-Text.field-0-is at c.in-Ok-Text.ensures.hands in
+    reads_less _ _ c.loop-line.lines c.next.new.self c.args.setting.now.bounds.max_input hands.0 _ c.loop-line.invariant.max_input hands.1

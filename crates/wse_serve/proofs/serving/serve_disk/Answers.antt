@@ -1,48 +1,65 @@
-use Rattle.std.proofs.Common.{[], inl, inr, false, refl, sym, ap, arith}
+use Rattle.std.proofs.Common.{refl, sym, ap, subst, arith}
+use Rattle.std.specs.Prelude.{IsSome}
 use Rattle.wse_path.specs.Versions.{Numbers, version_of}
-use Rattle.wse_disk.specs.Calls.{Standing}
-use Rattle.wse_serve.specs.Machine.{State}
-use Rattle.wse_serve.proofs.BumpLemmas.{first_low}
-use Rattle.wse_serve.proofs.Starting.{first_state, unstarted, runs_earlier}
+use Rattle.wse_disk.specs.Told.{ReadsFiles, files_of}
+use Rattle.wse_serve.specs.Scene.{disk_at, scene}
+use Rattle.wse_serve.specs.Edits.{State, edits}
+use Rattle.wse_serve.specs.Ending.{ending_of}
+use Rattle.wse_serve.specs.Run.{Runs}
+use Rattle.wse_serve.specs.Session.{state_of, IsSound, HasNoZero}
+use Rattle.wse_serve.specs.declared.serving.ServeEnd.TheVariants.{Disk, Memory, TooBig}
+use Rattle.wse_serve.proofs.FirstLemmas.{first_low, first_there}
+use Rattle.wse_serve.proofs.SoundLemmas.{starts}
+use Rattle.wse_serve.proofs.Starting.{first_state, first_start, first_same, edits_unread, edits_read}
 use Rattle.wse_serve.proofs.serving.serve_disk.Goals as goal
-
-pub serve-requires-clause-sound : goal.serve-requires-clause-sound
-serve-requires-clause-sound g c = record {
-  tree = c.in-Ok.ensures.sound;
-  few = omega arith;
-  low = λ q. omega (arith, ap (λ (vs : Numbers). version_of vs q) c.in-Ok.ensures.versions, first_low c.in-Ok.field-0.tree.files q);
-}
-
-pub returns-in-Ok-clause-run : goal.returns-in-Ok-clause-run
-returns-in-Ok-clause-run g c =
-    let s : State = record { files = c.in-Ok.field-0.tree.files; versions = c.in-Ok.field-0.versions.entries; done = 0 } in
-    let run = c.serve.ensures.run in (
-      s,
-      run.0,
-      run.1,
-      run.2,
-      record { tree = λ told. sym (c.in-Ok.ensures.tree told); versions = c.in-Ok.ensures.versions; none = refl },
-      runs_earlier g.D.Disk.tells g.D.Disk.stands g.D.Disk.moment_of c.args.disk c.load.new.disk c.serve.result c.args.setting.now s c.args.max_input _ _ _ _ run.0 run.1 run.2 c.in-Ok.ensures.later run.3,
-    )
 
 pub returns-in-Err-Failed-clause-run : goal.returns-in-Err-Failed-clause-run
 returns-in-Err-Failed-clause-run g c =
-    let s = first_state (g.D.Disk.stands c.args.disk).reading.files in (
-      s,
-      [],
-      false,
-      [],
-      record { tree = λ told. refl; versions = refl; none = refl },
-      unstarted g.D.Disk.tells g.D.Disk.stands g.D.Disk.moment_of c.args.disk _ c.args.setting.now s c.args.max_input _ _ (inl refl) c.load.ensures.later (λ told. ap (λ (d : Standing). d.reading.files) (c.load.ensures.same told)),
-    )
+    let at = disk_at g.D.Disk.moment_of g.D.Disk.told in
+    edits_unread c.args.setting.now.root c.args.setting.now.bounds.limits c.args.setting.now.bounds.max_input _ _ (at c.args.disk) (at c.load.new.disk) (first_state (files_of (g.D.Disk.told c.args.disk))) Disk tt (λ e. cc)
+    c.load.ensures.later (first_start (g.D.Disk.told c.args.disk)) (first_same (g.D.Disk.told c.args.disk) (g.D.Disk.told c.load.new.disk) c.load.ensures.same)
 
 pub returns-in-Err-Memory-clause-run : goal.returns-in-Err-Memory-clause-run
 returns-in-Err-Memory-clause-run g c =
-    let s = first_state (g.D.Disk.stands c.args.disk).reading.files in (
-      s,
-      [],
-      false,
-      [],
-      record { tree = λ told. refl; versions = refl; none = refl },
-      unstarted g.D.Disk.tells g.D.Disk.stands g.D.Disk.moment_of c.args.disk _ c.args.setting.now s c.args.max_input _ _ (inr refl) c.load.ensures.later (λ told. ap (λ (d : Standing). d.reading.files) (c.load.ensures.same told)),
-    )
+    let at = disk_at g.D.Disk.moment_of g.D.Disk.told in
+    edits_unread c.args.setting.now.root c.args.setting.now.bounds.limits c.args.setting.now.bounds.max_input _ _ (at c.args.disk) (at c.load.new.disk) (first_state (files_of (g.D.Disk.told c.args.disk))) Memory tt (λ e. cc)
+    c.load.ensures.later (first_start (g.D.Disk.told c.args.disk)) (first_same (g.D.Disk.told c.args.disk) (g.D.Disk.told c.load.new.disk) c.load.ensures.same)
+
+-- the tree is too big
+pub returns-in-Some-clause-run : goal.returns-in-Some-clause-run
+returns-in-Some-clause-run g c =
+    let at = disk_at g.D.Disk.moment_of g.D.Disk.told in
+    let loaded = c.in-Ok.loaded in
+    let first : State = record { files = loaded.tree.files; versions = loaded.versions.entries; serial = 0; elements = 0 } in
+    edits_unread c.args.setting.now.root c.args.setting.now.bounds.limits c.args.setting.now.bounds.max_input _ _ (at c.args.disk) (at c.load.new.disk) first (TooBig c.in-Some.hit) tt
+    (λ e. subst (λ o. IsSome o) c.in-Some.ensures refl)
+    c.in-Ok.ensures.later
+    (record { tree = c.in-Ok.ensures.tree; versions = c.in-Ok.ensures.versions; none_recorded = refl; none_made = refl })
+    (subst (λ t. ReadsFiles t first.files) (sym c.in-Ok.ensures.same) c.in-Ok.ensures.tree)
+
+pub serve-requires-clause-sound : goal.serve-requires-clause-sound
+serve-requires-clause-sound g c =
+    let loaded = c.in-Ok.loaded in
+    let sound : IsSound c.args.setting.now.bounds.limits (record { files = loaded.tree.files; versions = loaded.versions.entries; serial = 0; elements = 0 }) = record {
+      tree = c.in-Ok.ensures.sound;
+      fits = starts c.args.setting.now.bounds.limits loaded.tree.files (sym c.in-None.ensures);
+      few = omega arith;
+      fewer = omega arith;
+      low = λ q. omega (arith, ap (λ (vs : Numbers). version_of vs q) c.in-Ok.ensures.versions, first_low loaded.tree.files q);
+      there = subst HasNoZero (sym c.in-Ok.ensures.versions) (first_there loaded.tree.files);
+    } in
+    subst (λ (s : State). IsSound c.args.setting.now.bounds.limits s) (sym c.into_session.ensures.state) sound
+
+pub returns-in-None-clause-run : goal.returns-in-None-clause-run
+returns-in-None-clause-run g c =
+    let at = disk_at g.D.Disk.moment_of g.D.Disk.told in
+    let limits = c.args.setting.now.bounds.limits in
+    let loaded = c.in-Ok.loaded in
+    let first : State = record { files = loaded.tree.files; versions = loaded.versions.entries; serial = 0; elements = 0 } in
+    let max_input = c.args.setting.now.bounds.max_input in
+    let now = scene (g.S.Source.left c.serve.new.source) (g.K.Sink.pieces c.serve.new.out) (at c.serve.result.disk) in
+    let from = λ (s : State) (d : g.row.D.Denot). Runs (edits c.args.setting.now.root limits) s max_input (scene (g.S.Source.left c.args.source.now) (g.K.Sink.pieces c.args.out.now) (at d)) now (ending_of c.serve.result.end) in
+    let runs = subst (λ s. from s c.load.new.disk) c.into_session.ensures.state (subst (λ d. from (state_of c.into_session.result) d) c.into_session.ensures.disk c.serve.ensures.run) in
+    edits_read c.args.setting.now.root limits max_input _ _ (at c.args.disk) (at c.load.new.disk) now first (ending_of c.serve.result.end) (sym c.in-None.ensures) c.serve.ensures.started c.in-Ok.ensures.later
+    (record { tree = c.in-Ok.ensures.tree; versions = c.in-Ok.ensures.versions; none_recorded = refl; none_made = refl })
+    runs

@@ -1,30 +1,23 @@
-use Rattle.std.proofs.Common.{[], inl, false, refl, sym, ap, ◌∙◌}
-use Rattle.wse_disk.specs.Calls.{Standing}
-use Rattle.wse_serve.specs.declared.setting.Setting.{Setting}
-use Rattle.wse_serve.proofs.Starting.{first_state, unstarted, runs_earlier}
+use Rattle.std.proofs.Common.{◌≡◌, Some, refl, sym, ap, subst, ◌∙◌}
+use Rattle.wse_disk.specs.Told.{WhereTold, files_of}
+use Rattle.wse_path.specs.Tree.{Entries}
+use Rattle.wse_serve.specs.Scene.{disk_at}
+use Rattle.wse_serve.specs.Start.{start_hit}
+use Rattle.wse_serve.specs.declared.serving.ServeEnd.TheVariants.{Disk}
+use Rattle.wse_serve.proofs.Starting.{first_state, first_start, first_same, edits_unread, edits_earlier}
 use Rattle.wsedit.proofs.program.place_and_serve.Goals as goal
 
 pub returns-in_default-clause-run : goal.returns-in_default-clause-run
 returns-in_default-clause-run g c =
-    let s = first_state (g.D.Disk.stands c.args.disk).reading.files in
-    let setting : Setting = record { root = c.args.words.root; serial = c.args.bounds.max_serial } in (
-      s,
-      [],
-      false,
-      [],
-      record { tree = λ told. refl; versions = refl; none = refl },
-      unstarted g.D.Disk.tells g.D.Disk.stands g.D.Disk.moment_of c.args.disk _ setting s c.args.bounds.max_input _ _ (inl refl) c.in_default.ensures.later
-          (λ told. ap (λ (d : Standing). d.reading.files) (c.in_default.ensures.same told)),
-    )
+    let at = disk_at g.D.Disk.moment_of g.D.Disk.told in
+    edits_unread c.args.words.root c.args.bounds.limits c.args.bounds.max_input _ _ (at c.args.disk) (at c.place.new.self) (first_state (files_of (g.D.Disk.told c.args.disk))) Disk tt (λ e. cc)
+    c.in_default.ensures.later (first_start (g.D.Disk.told c.args.disk)) (first_same (g.D.Disk.told c.args.disk) (g.D.Disk.told c.place.new.self) c.in_default.ensures.same)
 
 pub returns-clause-run : goal.returns-clause-run
 returns-clause-run g c =
-    let setting : Setting = record { root = c.args.words.root; serial = c.args.bounds.max_serial } in
-    let run = c.serve_disk.ensures.run in (
-      run.0,
-      run.1,
-      run.2,
-      run.3,
-      record { tree = λ told. sym (ap (λ (d : Standing). d.reading.files) (c.in-Ok.ensures.same told)) ∙ run.4.tree told; versions = run.4.versions; none = run.4.none },
-      runs_earlier g.D.Disk.tells g.D.Disk.stands g.D.Disk.moment_of c.args.disk c.place.new.self c.serve_disk.result setting run.0 c.args.bounds.max_input _ _ _ _ run.1 run.2 run.3 c.in-Ok.ensures.later run.5,
-    )
+    let at = disk_at g.D.Disk.moment_of g.D.Disk.told in
+    edits_earlier c.args.words.root c.args.bounds.limits c.args.bounds.max_input _ _ (at c.args.disk) (at c.place.new.self) _ _ c.in-Ok.ensures.later c.in-Ok.ensures.same c.serve_disk.ensures.run
+
+pub returns-clause-too_big : goal.returns-clause-too_big
+returns-clause-too_big g c = λ hit is.
+    subst (λ t. WhereTold t (λ s. start_hit c.args.bounds.limits s.reading.files ≡ Some hit)) c.in-Ok.ensures.same (c.serve_disk.ensures.too_big hit is)

@@ -1,23 +1,21 @@
-use Rattle.std.proofs.Common.{[], inr, false, refl, arith}
-use Rattle.wse_serve.specs.declared.serving.ServeEnd.TheVariants as ends
-use Rattle.wse_serve.specs.declared.serving.Served.{Served}
-use Rattle.wse_serve.specs.declared.setting.Setting.{Setting}
-use Rattle.wsedit.specs.declared.status.Status.TheVariants.{Memory}
-use Rattle.wse_serve.proofs.Starting.{first_state, unstarted}
-use Rattle.wsedit.proofs.ByStatus.{runs_from}
+use Rattle.std.proofs.Common.{refl, ◌∙◌, arith}
+use Rattle.wse_disk.specs.Told.{files_of}
+use Rattle.wse_serve.specs.Scene.{disk_at, scene}
+use Rattle.wse_serve.specs.Start.{RunsEdits}
+use Rattle.wse_serve.specs.declared.serving.ServeEnd.TheVariants.{Memory}
+use Rattle.wse_serve.proofs.Starting.{first_state, first_start, first_same, edits_unread}
+use Rattle.wsedit.proofs.ByStatus.{by_code, same_root}
 use Rattle.wsedit.proofs.program.run_words.Goals as goal
 
 -- there was no memory for the root
 pub returns-in-Err-clause-run : goal.returns-in-Err-clause-run
 returns-in-Err-clause-run g c = λ root is.
-    let s = first_state (g.D.Disk.stands c.args.disk).reading.files in
-    let setting : Setting = record { root = root; serial = c.args.bounds.max_serial } in
-    let served : Served g.row.D.Denot = record { disk = c.args.disk; end = ends.Memory } in (
-      s,
-      [],
-      false,
-      [],
-      record { tree = λ told. refl; versions = refl; none = refl },
-      runs_from g.D.Disk.tells g.D.Disk.stands g.D.Disk.moment_of c.args.disk served Memory setting s c.args.bounds.max_input _ _ _ _ [] false [] refl
-          (unstarted g.D.Disk.tells g.D.Disk.stands g.D.Disk.moment_of c.args.disk served setting s c.args.bounds.max_input _ _ (inr refl) (omega arith) (λ told. refl)),
-    )
+    let at = disk_at g.D.Disk.moment_of g.D.Disk.told in
+    edits_unread root c.args.bounds.limits c.args.bounds.max_input _ _ (at c.args.disk) (at c.args.disk) (first_state (files_of (g.D.Disk.told c.args.disk))) Memory tt (λ e. cc)
+    (omega arith) (first_start (g.D.Disk.told c.args.disk)) (first_same (g.D.Disk.told c.args.disk) (g.D.Disk.told c.args.disk) refl)
+
+-- the run by its status
+pub returns-in-Ok-Some-clause-run : goal.returns-in-Ok-Some-clause-run
+returns-in-Ok-Some-clause-run g c = λ root is.
+    let read = rw c.in-Ok-Some.field-0-is at c.in-Ok-Some.ensures.root in
+    by_code root c.in-Ok-Some.words.root c.args.bounds.limits c.args.bounds.max_input _ _ c.place_and_serve-disk.result.end c.of-status.result (same_root c.in-Ok-Some.words.root root (read ∙ is)) c.of-status.ensures c.place_and_serve-disk.ensures.run

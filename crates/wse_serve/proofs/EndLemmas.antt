@@ -1,0 +1,157 @@
+-- How a run ends.
+use Rattle.std.proofs.Common.{◌≡◌, ◌≢◌, ⊎_elim, ℕ, ◌+◌, ◌≤◌, Bool, true, false, List, [], ◌∷◌, ◌++◌, length, take, Option, IfSome, Result, Ok, Err, refl, sym, ap, subst, ◌∙◌, arith}
+use Rattle.wse_io.specs.Stream.{Piece, Adds, bytes_of}
+use Rattle.wse_io.specs.Lines.{lines}
+use Rattle.wse_io.specs.Reader.{Reader, Hands, Given, IsAfter, is_over}
+use Rattle.wse_io.specs.declared.lines.Ahead.TheVariants.{Open, Over, Failed}
+use Rattle.wse_io.specs.declared.lines.Line.{Line}
+use Rattle.wse_io.specs.declared.lines.Line.TheVariants.{Text, End}
+use Rattle.wse_io.specs.declared.lines.LineFault.{LineFault}
+use Rattle.wse_io.specs.declared.lines.LineFault.TheVariants as line_faults
+use Rattle.wse_io.proofs.StreamLemmas.{takes_more, adds_more}
+use Rattle.wse_path.specs.Causes.{Rose}
+use Rattle.wse_serve.specs.Causes.{CountsFault}
+use Rattle.wse_serve.specs.Machine.{Machine, transcript, state_after}
+use Rattle.wse_serve.specs.Scene.{DiskAt, scene, Faults}
+use Rattle.wse_serve.specs.Ending.{ending_of, HasCauses}
+use Rattle.wse_serve.specs.Run.{Ran, Runs}
+use Rattle.wse_serve.specs.Serving.{end_of_lines, end_of_one, is_disk_fault, is_write_fault}
+use Rattle.wse_serve.specs.declared.serving.ServeFault.{ServeFault}
+use Rattle.wse_serve.specs.declared.serving.ServeFault.TheVariants as one_faults
+use Rattle.wse_serve.specs.declared.serving.ServeEnd.{ServeEnd}
+use Rattle.wse_serve.specs.declared.serving.ServeEnd.TheVariants.{Done}
+use Rattle.wse_serve.proofs.RunLemmas.{ran_more, ran_weaker}
+use Rattle.wse_serve.proofs.Reading.{Reads, got, over_is, nothing_got, still_over, lines_then, lines_now, counted, reads_more}
+use Rattle.wse_serve.proofs.Answering.{Answers, ran_over, all_done}
+use Rattle.wse_serve.proofs.Says.{Whole, whole_fault, whole_one, runs_by}
+
+-- a line that ended with a fault of the disk
+pub disk_ended : {D : Type 0} (fault : ServeFault D) → is_disk_fault {D = D} (Err fault) ≡ true → (ending_of (end_of_one fault)).disk ≡ true
+disk_ended (one_faults.Write disk) h = cc
+disk_ended (one_faults.Disk disk) h = refl
+disk_ended (one_faults.Memory disk) h = cc
+
+-- such ends come after the start
+pub lines_started : (f : LineFault) → (ending_of (end_of_lines f)).too_big ≡ false
+lines_started line_faults.Read = refl
+lines_started (line_faults.InputLimit n) = refl
+lines_started line_faults.Memory = refl
+
+pub one_started : {D : Type 0} (fault : ServeFault D) → (ending_of (end_of_one fault)).too_big ≡ false
+one_started (one_faults.Write disk) = refl
+one_started (one_faults.Disk disk) = refl
+one_started (one_faults.Memory disk) = refl
+
+-- what comes behind the lines after a fault
+pub failed_ahead : (f : LineFault) (bytes : List ℕ) (new : Reader) → Given (Err f) bytes new → new.ahead ≡ Failed f
+failed_ahead line_faults.Read bytes new g = g.0
+failed_ahead (line_faults.InputLimit n) bytes new g = g.0
+failed_ahead line_faults.Memory bytes new g = g.0
+
+-- the count of the source at an end by a fault of the reader, where it was as at the start before
+pub source_cause : (f : LineFault) (old mid new : ℕ) → mid ≡ old → mid ≤ new → (f ≢ line_faults.Read → new ≡ mid) → (f ≡ line_faults.Read → Rose old new) → CountsFault (ending_of (end_of_lines f)).read old new
+source_cause line_faults.Read old mid new same later kept rose = (omega (arith, same, later), rose refl)
+source_cause (line_faults.InputLimit n) old mid new same later kept rose = kept (λ e. cc) ∙ same
+source_cause line_faults.Memory old mid new same later kept rose = kept (λ e. cc) ∙ same
+
+-- the cause of such an end
+pub lines_cause : (f : LineFault) (before now : Faults) → CountsFault (ending_of (end_of_lines f)).read before.source now.source → now.sink ≡ before.sink → now.disk ≡ before.disk
+    → HasCauses (ending_of (end_of_lines f)) before now
+lines_cause line_faults.Read before now source sink disk = record { source = source; sink = sink; disk = disk }
+lines_cause (line_faults.InputLimit n) before now source sink disk = record { source = source; sink = sink; disk = disk }
+lines_cause line_faults.Memory before now source sink disk = record { source = source; sink = sink; disk = disk }
+
+-- the cause of an end by a line that failed
+pub one_cause : {D : Type 0} (fault : ServeFault D) (before now : Faults) → now.source ≡ before.source → CountsFault (is_write_fault {D = D} (Err fault)) before.sink now.sink → CountsFault (is_disk_fault {D = D} (Err fault)) before.disk now.disk
+    → HasCauses (ending_of (end_of_one fault)) before now
+one_cause (one_faults.Write disk) before now source sink there = record { source = source; sink = sink; disk = there }
+one_cause (one_faults.Disk disk) before now source sink there = record { source = source; sink = sink; disk = there }
+one_cause (one_faults.Memory disk) before now source sink there = record { source = source; sink = sink; disk = there }
+
+module _ {S : Type 0} (m : Machine S) (left_old left_now left_new : Option (List ℕ)) (pieces_old pieces_now : Option (List Piece)) (before here now : DiskAt) (end : ServeEnd)
+    (s u : S) (n most : ℕ) (r r' : Reader) (taken read : List ℕ) (done : List (List ℕ)) (ps : List Piece)
+    (reads : Reads left_old left_now r taken done) (answers : Answers m pieces_old pieces_now before here s u n done ps) (is_limit : r.max_input ≡ most) where
+  -- the run at this end
+  abbrev pub AtEnd : Type 0
+  AtEnd = Runs m s most (scene left_old pieces_old before) (scene left_new pieces_now now) (ending_of end)
+
+  abbrev pub all_lines : Bool → List (List ℕ)
+  all_lines over = lines (take r.max_input (taken ++ read)) over
+
+  abbrev pub Answered : Bool → Type 0
+  Answered over = bytes_of ps ≡ transcript m 1 s (all_lines over)
+
+  abbrev pub RestsAt : Bool → DiskAt → Type 0
+  RestsAt over disk = m.on_disk (state_after m s (all_lines over)) disk.told
+
+  at_end : (over : Bool) (result : Result Line LineFault) → Hands left_now left_new r r' read result → now ≡ here → (over ≡ true → IfSome left_new (λ rest. rest ≡ []))
+      → all_lines over ≡ done ++ lines (r.held ++ got r read) over → Whole end r.max_input (length (taken ++ read)) over (Answered over) (RestsAt over now) → AtEnd
+  at_end over result h same ended all whole =
+      let ran : Ran m false before now 1 s done ps = subst (λ d. Ran m false before d 1 s done ps) (sym same) answers.ran in
+      let runs = runs_by m s r.max_input (scene left_old pieces_old before) (scene left_new pieces_now now) end (taken ++ read) over ps
+      (takes_more _ _ _ taken read reads.takes h.takes) ended answers.adds
+      (ran_over m (ending_of end).disk before now s done _ _ ps (ran_weaker m false (ending_of end).disk before now 1 s done ps (λ f. cc) ran) all)
+      whole in
+      subst (λ l. Runs m s l (scene left_old pieces_old before) (scene left_new pieces_now now) (ending_of end)) is_limit runs
+
+  -- the reader failed
+  pub fault_ends : (fault : LineFault) → Hands left_now left_new r r' read (Err fault) → now ≡ here → end ≡ end_of_lines fault → AtEnd
+  fault_ends fault h same is_end =
+      let over = is_over r.ahead in
+      let all = lines_then left_old left_now left_new r r' taken read done reads over (λ o. (nothing_got left_now left_new r r' read (Err fault) h o, o)) in
+      at_end over (Err fault) h same (still_over left_old left_now left_new r r' taken read done reads (Err fault) h) all
+      (subst (λ e. Whole e r.max_input (length (taken ++ read)) over (Answered over) (RestsAt over now)) (sym is_end)
+      (whole_fault fault r.max_input (length (taken ++ read)) over (r.held ++ got r read) r' (Answered over) (RestsAt over now) h.given h.after
+      (counted left_old left_now left_new r r' taken read done reads (Err fault) h)
+      (subst (λ t. t ≤ r.max_input + 1) (counted left_old left_now left_new r r' taken read done reads (Err fault) h) h.within)
+      (settled fault h)
+      (λ none. answers.whole ∙ ap (transcript m 1 s) (sym (all_done done _ _ all none)))))
+    where
+      settled : (f : LineFault) → Hands left_now left_new r r' read (Err f) → is_over r.ahead ≡ true → r'.ahead ≡ Failed line_faults.Memory
+      settled f g o =
+          let was = over_is r.ahead o in
+          let failed = failed_ahead f _ _ g.given in
+          ⊎_elim (λ stays. cc) (λ e. cc) (g.settled (λ e. cc)).1
+
+  -- the input is at its end
+  pub done_ends : Hands left_now left_new r r' read (Ok End) → now ≡ here → end ≡ Done → AtEnd
+  done_ends h same is_end =
+      let all = lines_then left_old left_now left_new r r' taken read done reads true (λ o. (nothing_got left_now left_new r r' read (Ok End) h o, refl)) in
+      let is_done = all_done done _ _ all h.given.2 in
+      let count = counted left_old left_now left_new r r' taken read done reads (Ok End) h in
+      let within : r'.taken ≤ r.max_input = subst (λ a. IsAfter a r.max_input r'.taken) h.given.0 h.after in
+      at_end true (Ok End) h same (λ _. ended_at h) all
+      (subst (λ e. Whole e r.max_input (length (taken ++ read)) true (Answered true) (RestsAt true now)) (sym is_end) (
+        subst (λ k. k ≤ r.max_input) count within,
+        refl,
+        answers.whole ∙ ap (transcript m 1 s) (sym is_done),
+        subst (λ (d : DiskAt). m.on_disk (state_after m s (all_lines true)) d.told) (sym same) (subst (λ w. m.on_disk w here.told) (answers.state ∙ ap (state_after m s) (sym is_done)) answers.agrees),
+      ))
+    where
+      ended_at : Hands left_now left_new r r' read (Ok End) → IfSome left_new (λ rest. rest ≡ [])
+      ended_at g = elim (r.ahead) as (λ x. r.ahead ≡ x → IfSome left_new (λ rest. rest ≡ [])) [
+        | Open ↦ λ is. g.ended is g.given.0
+        | Over ↦ λ is. still_over left_old left_now left_new r r' taken read done reads (Ok End) g (ap is_over is)
+        | Failed fault ↦ λ is. absurd (⊎_elim (λ stays. let e = sym is ∙ sym stays ∙ g.given.0 in cc) (λ e. cc) (g.settled (λ e. let x = sym is ∙ e in cc)).1)
+      ] refl
+
+  -- a line failed
+  pub one_ends : {D : Type 0} (pieces_new : Option (List Piece)) (line : List ℕ) (fault : ServeFault D) (there : DiskAt) (qs : List Piece) → Hands left_now left_new r r' read (Ok (Text line)) → Adds pieces_now pieces_new qs
+      → Ran m (is_disk_fault {D = D} (Err fault)) here there n u (line ∷ []) qs → now ≡ there → end ≡ end_of_one fault
+      → Runs m s most (scene left_old pieces_old before) (scene left_new pieces_new now) (ending_of end)
+  one_ends pieces_new line fault there qs h adds ran same is_end =
+      let reads' = reads_more left_old left_now left_new r r' taken read done line reads h in
+      let all = lines_now left_old left_new r' (taken ++ read) (done ++ line ∷ []) reads' in
+      let joined = ran_more m false (is_disk_fault {D = _} (Err fault)) before here there 1 n s u done (line ∷ []) ps qs answers.ran answers.whole answers.number answers.state ran in
+      let weaker = ran_weaker m (is_disk_fault {D = _} (Err fault)) (ending_of end).disk before there 1 s (done ++ line ∷ []) (ps ++ qs)
+      (λ failed. ap (λ e. (ending_of e).disk) is_end ∙ disk_ended fault failed) joined in
+      let ran_now : Ran m (ending_of end).disk before now 1 s (done ++ line ∷ []) (ps ++ qs) =
+      subst (λ d. Ran m (ending_of end).disk before d 1 s (done ++ line ∷ []) (ps ++ qs)) (sym same) weaker in
+      let over = is_over r'.ahead in
+      let ls = lines (take r'.max_input (taken ++ read)) over in
+      let runs = runs_by m s r'.max_input (scene left_old pieces_old before) (scene left_new pieces_new now) end (taken ++ read) over (ps ++ qs)
+      reads'.takes (λ o. reads'.over (over_is r'.ahead o)) (adds_more _ _ _ ps qs answers.adds adds)
+      (ran_over m (ending_of end).disk before now s (done ++ line ∷ []) _ _ (ps ++ qs) ran_now all)
+      (subst (λ e. Whole e r'.max_input (length (taken ++ read)) over (bytes_of (ps ++ qs) ≡ transcript m 1 s ls) (m.on_disk (state_after m s ls) now.told)) (sym is_end)
+      (whole_one fault r'.max_input _ _ _ _ (let w = h.within in let k = counted left_old left_now left_new r r' taken read done reads (Ok (Text line)) h in omega (arith, h.limit)))) in
+      subst (λ l. Runs m s l (scene left_old pieces_old before) (scene left_new pieces_new now) (ending_of end)) (h.limit ∙ is_limit) runs
