@@ -37,59 +37,82 @@ fn frees(alloc: Global, locks: &mut Locks, by: u32, texts: &str) -> Result<Optio
     Ok(locks.free(by, &paths(alloc, texts)?).err())
 }
 
+fn are_taken_all_or_none(alloc: Global, locks: &mut Locks) -> Result<bool, Fail> {
+    Ok(
+        takes(alloc, locks, 2, "b")?
+            && is_held(alloc, locks, 1, "a b b", "b")?
+            && have_holder(alloc, &*locks, "a", None)?,
+    )
+}
+
+// One's own may be taken again.
+fn are_taken_again(alloc: Global, locks: &mut Locks) -> Result<bool, Fail> {
+    Ok(takes(alloc, locks, 2, "b a")? && have_holder(alloc, &*locks, "a b", Some(2))?)
+}
+
 #[test]
 fn locks_are_taken_all_or_none(rt: HostRuntime) -> Result<(), Fail> {
-    let alloc = rt.alloc();
-    let mut locks = Locks::new(alloc);
-    assert!(rt; takes(alloc, &mut locks, 2, "b")?);
-    assert!(rt; is_held(alloc, &mut locks, 1, "a b b", "b")?);
-    assert!(rt; have_holder(alloc, &locks, "a", None)?);
-    // One's own may be taken again.
-    assert!(rt; takes(alloc, &mut locks, 2, "b a")?);
-    assert!(rt; have_holder(alloc, &locks, "a b", Some(2))?);
+    let mut locks = Locks::new(rt.alloc());
+    assert!(rt; are_taken_all_or_none(rt.alloc(), &mut locks)?);
+    assert!(rt; are_taken_again(rt.alloc(), &mut locks)?);
     Ok(())
+}
+
+fn is_freed_by_its_holder(alloc: Global, locks: &mut Locks) -> Result<bool, Fail> {
+    Ok(
+        takes(alloc, locks, 2, "b")?
+            && frees(alloc, locks, 1, "b")? == Some(NotHeld { index: 0 })
+            && frees(alloc, locks, 2, "b a")? == Some(NotHeld { index: 1 })
+            && have_holder(alloc, &*locks, "b", Some(2))?,
+    )
 }
 
 #[test]
 fn a_lock_is_freed_by_its_holder(rt: HostRuntime) -> Result<(), Fail> {
-    let alloc = rt.alloc();
-    let mut locks = Locks::new(alloc);
-    assert!(rt; takes(alloc, &mut locks, 2, "b")?);
-    assert!(rt; frees(alloc, &mut locks, 1, "b")? == Some(NotHeld { index: 0 }));
-    assert!(rt; frees(alloc, &mut locks, 2, "b a")? == Some(NotHeld { index: 1 }));
-    assert!(rt; have_holder(alloc, &locks, "b", Some(2))?);
+    let mut locks = Locks::new(rt.alloc());
+    assert!(rt; is_freed_by_its_holder(rt.alloc(), &mut locks)?);
     Ok(())
+}
+
+fn is_freed_once(alloc: Global, locks: &mut Locks) -> Result<bool, Fail> {
+    Ok(
+        takes(alloc, locks, 2, "a b")?
+            && frees(alloc, locks, 2, "b b")?.is_none()
+            && have_holder(alloc, &*locks, "b", None)?
+            && have_holder(alloc, &*locks, "a", Some(2))?,
+    )
 }
 
 #[test]
 fn a_path_that_is_named_twice_is_freed_once(rt: HostRuntime) -> Result<(), Fail> {
-    let alloc = rt.alloc();
-    let mut locks = Locks::new(alloc);
-    assert!(rt; takes(alloc, &mut locks, 2, "a b")?);
-    assert!(rt; frees(alloc, &mut locks, 2, "b b")?.is_none());
-    assert!(rt; have_holder(alloc, &locks, "b", None)?);
-    assert!(rt; have_holder(alloc, &locks, "a", Some(2))?);
+    let mut locks = Locks::new(rt.alloc());
+    assert!(rt; is_freed_once(rt.alloc(), &mut locks)?);
     Ok(())
+}
+
+fn leaves_others(alloc: Global, locks: &mut Locks) -> Result<bool, Fail> {
+    if !takes(alloc, locks, 2, "b d/x")? || !takes(alloc, locks, 1, "a c")? {
+        return Ok(false);
+    }
+    locks.leave(2);
+    Ok(have_holder(alloc, &*locks, "b d/x", None)? && have_holder(alloc, &*locks, "a c", Some(1))?)
 }
 
 #[test]
 fn one_who_leaves_takes_no_lock_of_another(rt: HostRuntime) -> Result<(), Fail> {
-    let alloc = rt.alloc();
-    let mut locks = Locks::new(alloc);
-    assert!(rt; takes(alloc, &mut locks, 2, "b d/x")?);
-    assert!(rt; takes(alloc, &mut locks, 1, "a c")?);
-    locks.leave(2);
-    assert!(rt; have_holder(alloc, &locks, "b d/x", None)?);
-    assert!(rt; have_holder(alloc, &locks, "a c", Some(1))?);
+    let mut locks = Locks::new(rt.alloc());
+    assert!(rt; leaves_others(rt.alloc(), &mut locks)?);
     Ok(())
+}
+
+fn has_equal_copy(alloc: Global, locks: &Locks) -> Result<bool, Fail> {
+    have_holder(alloc, &locks.duplicate(alloc)?, "b", Some(2))
 }
 
 #[test]
 fn a_copy_has_the_same_locks(rt: HostRuntime) -> Result<(), Fail> {
-    let alloc = rt.alloc();
-    let mut locks = Locks::new(alloc);
-    assert!(rt; takes(alloc, &mut locks, 2, "b")?);
-    let copy = locks.duplicate(alloc)?;
-    assert!(rt; have_holder(alloc, &copy, "b", Some(2))?);
+    let mut locks = Locks::new(rt.alloc());
+    assert!(rt; takes(rt.alloc(), &mut locks, 2, "b")?);
+    assert!(rt; has_equal_copy(rt.alloc(), &locks)?);
     Ok(())
 }

@@ -125,14 +125,27 @@ fn becomes(
     has_paths(alloc, tree, wanted)
 }
 
+fn becomes_a_folder(alloc: Global, made: &mut Tree) -> Result<bool, Fail> {
+    Ok(
+        becomes(alloc, made, "d", "d/x d/y", "a d/x d/y d.x")?
+            && made.bytes() == 10
+            && holds(alloc, &*made, "d/y", "new")?,
+    )
+}
+
+fn becomes_a_file(alloc: Global, made: &mut Tree) -> Result<bool, Fail> {
+    Ok(
+        becomes(alloc, made, "d/x d/y", "d", "a d d.x")?
+            && made.bytes() == 7
+            && holds(alloc, &*made, "d", "new")?,
+    )
+}
+
 #[test]
 fn a_file_becomes_a_folder_and_a_file_again(rt: HostRuntime) -> Result<(), Fail> {
-    let alloc = rt.alloc();
-    let mut made = tree(alloc, "a d d.x")?;
-    assert!(rt; becomes(alloc, &mut made, "d", "d/x d/y", "a d/x d/y d.x")?);
-    assert!(rt; made.bytes() == 10 && holds(alloc, &made, "d/y", "new")?);
-    assert!(rt; becomes(alloc, &mut made, "d/x d/y", "d", "a d d.x")?);
-    assert!(rt; made.bytes() == 7 && holds(alloc, &made, "d", "new")?);
+    let mut made = tree(rt.alloc(), "a d d.x")?;
+    assert!(rt; becomes_a_folder(rt.alloc(), &mut made)?);
+    assert!(rt; becomes_a_file(rt.alloc(), &mut made)?);
     Ok(())
 }
 
@@ -148,34 +161,49 @@ fn changes_so(
     Ok((changed, tree.count(), tree.bytes()) == wanted)
 }
 
+fn first_and_last_change(alloc: Global, made: &mut Tree) -> Result<bool, Fail> {
+    Ok(
+        changes_so(alloc, made, "", "f0000 f0999", (2, 1000, 4996))?
+            && holds(alloc, &*made, "f0000", "new")?
+            && holds(alloc, &*made, "f0998", "f0998")?
+            && holds(alloc, &*made, "f0999", "new")?,
+    )
+}
+
 #[test]
 fn the_first_and_the_last_of_1000_files_change(rt: HostRuntime) -> Result<(), Fail> {
-    let alloc = rt.alloc();
-    let mut made = tree(alloc, names(alloc, 1000)?.as_str())?;
-    assert!(rt; changes_so(alloc, &mut made, "", "f0000 f0999", (2, 1000, 4996))?);
-    assert!(rt; holds(alloc, &made, "f0000", "new")?);
-    assert!(rt; holds(alloc, &made, "f0998", "f0998")?);
-    assert!(rt; holds(alloc, &made, "f0999", "new")?);
+    let mut made = tree(rt.alloc(), names(rt.alloc(), 1000)?.as_str())?;
+    assert!(rt; first_and_last_change(rt.alloc(), &mut made)?);
     Ok(())
+}
+
+fn all_come_and_go(alloc: Global, all: &str) -> Result<bool, Fail> {
+    let mut made = tree(alloc, all)?;
+    Ok(
+        changes_so(alloc, &mut made, all, "", (1000, 0, 0))?
+            && changes_so(alloc, &mut made, "", all, (1000, 1000, 3000))?,
+    )
 }
 
 #[test]
 fn files_are_taken_away_all_at_once(rt: HostRuntime) -> Result<(), Fail> {
-    let alloc = rt.alloc();
-    let all = names(alloc, 1000)?;
-    let mut made = tree(alloc, all.as_str())?;
-    assert!(rt; changes_so(alloc, &mut made, all.as_str(), "", (1000, 0, 0))?);
-    assert!(rt; changes_so(alloc, &mut made, "", all.as_str(), (1000, 1000, 3000))?);
+    let all = names(rt.alloc(), 1000)?;
+    assert!(rt; all_come_and_go(rt.alloc(), all.as_str())?);
     Ok(())
+}
+
+fn nothing_changes(alloc: Global, made: &mut Tree) -> Result<bool, Fail> {
+    Ok(
+        changes_so(alloc, made, "", "", (0, 3, 5))?
+            && changes_so(alloc, made, "d q", "", (0, 3, 5))?
+            && has_paths(alloc, &*made, "a d/x z")?,
+    )
 }
 
 #[test]
 fn no_change_leaves_all_files(rt: HostRuntime) -> Result<(), Fail> {
-    let alloc = rt.alloc();
-    let mut made = tree(alloc, "a d/x z")?;
-    assert!(rt; changes_so(alloc, &mut made, "", "", (0, 3, 5))?);
-    assert!(rt; changes_so(alloc, &mut made, "d q", "", (0, 3, 5))?);
-    assert!(rt; has_paths(alloc, &made, "a d/x z")?);
+    let mut made = tree(rt.alloc(), "a d/x z")?;
+    assert!(rt; nothing_changes(rt.alloc(), &mut made)?);
     Ok(())
 }
 
@@ -251,37 +279,52 @@ fn have_version(
     Ok(true)
 }
 
+fn rise_together(alloc: Global, versions: &mut Versions) -> Result<bool, Fail> {
+    Ok(
+        knows_then(alloc, versions, "d/x a", 1, (2, 68))?
+            && knows_then(alloc, versions, "z b a", 2, (4, 134))?
+            && knows_then(alloc, versions, "", 3, (4, 134))?
+            && have_version(alloc, &*versions, "a", 3)?
+            && have_version(alloc, &*versions, "b z", 2)?,
+    )
+}
+
 #[test]
 fn versions_rise_together(rt: HostRuntime) -> Result<(), Fail> {
-    let alloc = rt.alloc();
-    let mut versions = Versions::new(alloc);
-    assert!(rt; knows_then(alloc, &mut versions, "d/x a", 1, (2, 68))?);
-    assert!(rt; knows_then(alloc, &mut versions, "z b a", 2, (4, 134))?);
-    assert!(rt; knows_then(alloc, &mut versions, "", 3, (4, 134))?);
-    assert!(rt; have_version(alloc, &versions, "a", 3)?);
-    assert!(rt; have_version(alloc, &versions, "b z", 2)?);
+    let mut versions = Versions::new(rt.alloc());
+    assert!(rt; rise_together(rt.alloc(), &mut versions)?);
     Ok(())
+}
+
+fn all_rise_at_once(alloc: Global, versions: &mut Versions, all: &str) -> Result<bool, Fail> {
+    Ok(
+        knows_then(alloc, versions, all, 1, (1000, 37_000))?
+            && knows_then(alloc, versions, "f0999 f0000 e", 3, (1001, 37_033))?
+            && have_version(alloc, &*versions, "f0001 f0500 f0998", 1)?
+            && have_version(alloc, &*versions, "f0000 f0999", 4)?,
+    )
 }
 
 #[test]
 fn the_versions_of_1000_paths_rise_at_once(rt: HostRuntime) -> Result<(), Fail> {
-    let alloc = rt.alloc();
-    let mut versions = Versions::new(alloc);
-    let all = names(alloc, 1000)?;
-    assert!(rt; knows_then(alloc, &mut versions, all.as_str(), 1, (1000, 37_000))?);
-    assert!(rt; knows_then(alloc, &mut versions, "f0999 f0000 e", 3, (1001, 37_033))?);
-    assert!(rt; have_version(alloc, &versions, "f0001 f0500 f0998", 1)?);
-    assert!(rt; have_version(alloc, &versions, "f0000 f0999", 4)?);
+    let all = names(rt.alloc(), 1000)?;
+    let mut versions = Versions::new(rt.alloc());
+    assert!(rt; all_rise_at_once(rt.alloc(), &mut versions, all.as_str())?);
     Ok(())
+}
+
+fn changes_alone(alloc: Global, made: &mut Tree) -> Result<bool, Fail> {
+    Ok(
+        changes_so(alloc, made, "d/x", "", (1, 2, 2))?
+            && changes_so(alloc, made, "", "z", (1, 2, 4))?,
+    )
 }
 
 #[test]
 fn one_path_may_change_alone(rt: HostRuntime) -> Result<(), Fail> {
-    let alloc = rt.alloc();
-    let mut made = tree(alloc, "a d/x z")?;
-    assert!(rt; changes_so(alloc, &mut made, "d/x", "", (1, 2, 2))?);
-    assert!(rt; changes_so(alloc, &mut made, "", "z", (1, 2, 4))?);
-    let mut versions = Versions::new(alloc);
-    assert!(rt; knows_then(alloc, &mut versions, "d/x", 7, (1, 35))?);
+    let mut made = tree(rt.alloc(), "a d/x z")?;
+    assert!(rt; changes_alone(rt.alloc(), &mut made)?);
+    let mut versions = Versions::new(rt.alloc());
+    assert!(rt; knows_then(rt.alloc(), &mut versions, "d/x", 7, (1, 35))?);
     Ok(())
 }

@@ -15,23 +15,30 @@ fn is_above(alloc: Global, tree: &Tree, text: &str, above: &str) -> Result<bool,
     Ok(tree.file_above(&path(alloc, text)?) == Some(&path(alloc, above)?))
 }
 
+fn has_what_is_put(alloc: Global, made: &Tree) -> Result<bool, Fail> {
+    Ok(
+        has_paths(alloc, made, "a d/x d/y")?
+            && holds(alloc, made, "d/x", "d/x")?
+            && is_folder(alloc, made, "d")?
+            && is_above(alloc, made, "a/b/c", "a")?,
+    )
+}
+
 #[test]
 fn a_tree_holds_what_is_put(rt: HostRuntime) -> Result<(), Fail> {
-    let alloc = rt.alloc();
-    let made = tree(alloc, "d/y d/x a")?;
-    assert!(rt; has_paths(alloc, &made, "a d/x d/y")?);
-    assert!(rt; holds(alloc, &made, "d/x", "d/x")?);
-    assert!(rt; is_folder(alloc, &made, "d")?);
-    assert!(rt; is_above(alloc, &made, "a/b/c", "a")?);
+    let made = tree(rt.alloc(), "d/y d/x a")?;
+    assert!(rt; has_what_is_put(rt.alloc(), &made)?);
     Ok(())
+}
+
+fn fits_either(alloc: Global, made: &Tree, one: &str, other: &str) -> Result<bool, Fail> {
+    Ok(fits(alloc, made, one)? || fits(alloc, made, other)?)
 }
 
 #[test]
 fn no_path_of_a_tree_is_under_another(rt: HostRuntime) -> Result<(), Fail> {
-    let alloc = rt.alloc();
-    let made = tree(alloc, "d/y d/x a")?;
-    assert!(rt; !fits(alloc, &made, "a/b")?);
-    assert!(rt; !fits(alloc, &made, "d")?);
+    let made = tree(rt.alloc(), "d/y d/x a")?;
+    assert!(rt; !fits_either(rt.alloc(), &made, "a/b", "d")?);
     Ok(())
 }
 
@@ -51,13 +58,18 @@ fn put_in_room(alloc: Global, tree: &mut Tree, text: &str) -> Result<bool, Fail>
     Ok(true)
 }
 
+fn come_and_go(alloc: Global, made: &mut Tree) -> Result<bool, Fail> {
+    Ok(
+        loses(alloc, made, "d/x")?
+            && put_in_room(alloc, made, "z")?
+            && has_paths(alloc, &*made, "a d/y z")?,
+    )
+}
+
 #[test]
 fn files_come_and_go(rt: HostRuntime) -> Result<(), Fail> {
-    let alloc = rt.alloc();
-    let mut made = tree(alloc, "d/y d/x a")?;
-    assert!(rt; loses(alloc, &mut made, "d/x")?);
-    assert!(rt; put_in_room(alloc, &mut made, "z")?);
-    assert!(rt; has_paths(alloc, &made, "a d/y z")?);
+    let mut made = tree(rt.alloc(), "d/y d/x a")?;
+    assert!(rt; come_and_go(rt.alloc(), &mut made)?);
     Ok(())
 }
 
@@ -76,14 +88,19 @@ fn has_bytes_without(alloc: Global, tree: &mut Tree, text: &str, bytes: u64) -> 
     Ok(loses(alloc, tree, text)? && tree.bytes() == bytes)
 }
 
+fn has_its_bytes(alloc: Global, made: &mut Tree) -> Result<bool, Fail> {
+    Ok(
+        made.bytes() == 4
+            && has_bytes_with(alloc, made, "d/x", "1234567", 8)?
+            && has_bytes_with(alloc, made, "d/x", "1", 2)?
+            && has_bytes_without(alloc, made, "a", 1)?,
+    )
+}
+
 #[test]
 fn the_bytes_of_a_tree_are_those_of_its_files(rt: HostRuntime) -> Result<(), Fail> {
-    let alloc = rt.alloc();
-    let mut made = tree(alloc, "d/x a")?;
-    assert!(rt; made.bytes() == 4);
-    assert!(rt; has_bytes_with(alloc, &mut made, "d/x", "1234567", 8)?);
-    assert!(rt; has_bytes_with(alloc, &mut made, "d/x", "1", 2)?);
-    assert!(rt; has_bytes_without(alloc, &mut made, "a", 1)?);
+    let mut made = tree(rt.alloc(), "d/x a")?;
+    assert!(rt; has_its_bytes(rt.alloc(), &mut made)?);
     Ok(())
 }
 
@@ -103,13 +120,18 @@ fn has_first_under(alloc: Global, tree: &Tree, text: &str, first: &str) -> Resul
 }
 
 // By their texts a.b comes before a/b, and in path order behind it.
+fn has_all_right_behind(alloc: Global, made: &Tree) -> Result<bool, Fail> {
+    Ok(
+        has_paths(alloc, made, "a/b a.b")?
+            && has_under(alloc, made, "a", 1)?
+            && has_under(alloc, made, "a.b", 0)?
+            && has_first_under(alloc, made, "a", "a/b")?,
+    )
+}
+
 #[test]
 fn what_is_under_a_path_comes_right_behind_it(rt: HostRuntime) -> Result<(), Fail> {
-    let alloc = rt.alloc();
-    let made = tree(alloc, "a.b a/b")?;
-    assert!(rt; has_paths(alloc, &made, "a/b a.b")?);
-    assert!(rt; has_under(alloc, &made, "a", 1)?);
-    assert!(rt; has_under(alloc, &made, "a.b", 0)?);
-    assert!(rt; has_first_under(alloc, &made, "a", "a/b")?);
+    let made = tree(rt.alloc(), "a.b a/b")?;
+    assert!(rt; has_all_right_behind(rt.alloc(), &made)?);
     Ok(())
 }

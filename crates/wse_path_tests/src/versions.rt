@@ -17,27 +17,42 @@ fn has_version(alloc: Global, versions: &Versions, text: &str, number: u32) -> R
     Ok(versions.get(&path(alloc, text)?) == number)
 }
 
+fn rise_from_zero(alloc: Global, versions: &mut Versions, file: &RelPath) -> Result<bool, Fail> {
+    Ok(
+        versions.get(file) == 0
+            && raise(alloc, versions, file, 1)?
+            && raise(alloc, versions, file, 2)?
+            && versions.get(file) == 3
+            && versions.count() == 1,
+    )
+}
+
+fn all_rise_from_zero(alloc: Global, versions: &mut Versions) -> Result<bool, Fail> {
+    let file = path(alloc, "d/x")?;
+    Ok(rise_from_zero(alloc, versions, &file)? && has_version(alloc, &*versions, "d", 0)?)
+}
+
 #[test]
 fn versions_rise_from_zero(rt: HostRuntime) -> Result<(), Fail> {
-    let alloc = rt.alloc();
-    let mut versions = Versions::new(alloc);
-    let file = path(alloc, "d/x")?;
-    assert!(rt; versions.get(&file) == 0);
-    assert!(rt; raise(alloc, &mut versions, &file, 1)?);
-    assert!(rt; raise(alloc, &mut versions, &file, 2)?);
-    assert!(rt; versions.get(&file) == 3 && versions.count() == 1);
-    assert!(rt; has_version(alloc, &versions, "d", 0)?);
+    let mut versions = Versions::new(rt.alloc());
+    assert!(rt; all_rise_from_zero(rt.alloc(), &mut versions)?);
     Ok(())
+}
+
+fn copy_has_version(alloc: Global, versions: &Versions, file: &RelPath) -> Result<bool, Fail> {
+    let copy = versions.duplicate(alloc)?;
+    Ok(copy.path_at(0) == Some(file) && copy.get(file) == 3)
+}
+
+fn has_equal_copy(alloc: Global, versions: &mut Versions) -> Result<bool, Fail> {
+    let file = path(alloc, "d/x")?;
+    Ok(raise(alloc, versions, &file, 3)? && copy_has_version(alloc, &*versions, &file)?)
 }
 
 #[test]
 fn a_copy_has_the_same_versions(rt: HostRuntime) -> Result<(), Fail> {
-    let alloc = rt.alloc();
-    let mut versions = Versions::new(alloc);
-    let file = path(alloc, "d/x")?;
-    assert!(rt; raise(alloc, &mut versions, &file, 3)?);
-    let copy = versions.duplicate(alloc)?;
-    assert!(rt; copy.path_at(0) == Some(&file) && copy.get(&file) == 3);
+    let mut versions = Versions::new(rt.alloc());
+    assert!(rt; has_equal_copy(rt.alloc(), &mut versions)?);
     Ok(())
 }
 
@@ -51,14 +66,19 @@ fn knows_after(
     Ok(raise(alloc, versions, &path(alloc, text)?, 1)? && versions.known() == known)
 }
 
+fn knows_one_more(alloc: Global, versions: &mut Versions) -> Result<bool, Fail> {
+    Ok(
+        versions.known() == 0
+            && knows_after(alloc, versions, "d/x", 35)?
+            && knows_after(alloc, versions, "d/x", 35)?
+            && knows_after(alloc, versions, "a", 68)?,
+    )
+}
+
 // Each path counts for 32 and the bytes of its text, however high its version is.
 #[test]
 fn a_new_path_is_one_more_that_is_known(rt: HostRuntime) -> Result<(), Fail> {
-    let alloc = rt.alloc();
-    let mut versions = Versions::new(alloc);
-    assert!(rt; versions.known() == 0);
-    assert!(rt; knows_after(alloc, &mut versions, "d/x", 35)?);
-    assert!(rt; knows_after(alloc, &mut versions, "d/x", 35)?);
-    assert!(rt; knows_after(alloc, &mut versions, "a", 68)?);
+    let mut versions = Versions::new(rt.alloc());
+    assert!(rt; knows_one_more(rt.alloc(), &mut versions)?);
     Ok(())
 }

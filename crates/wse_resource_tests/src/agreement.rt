@@ -1,5 +1,5 @@
 // The quick way and the slow way, over many small trees.
-use crate::given::{listed, name_of, path, put, tree_of};
+use crate::given::{listed, name_of, op_of, put, tree_of};
 use std::alloc::Global;
 use std::test::Fail;
 use wse_path::{Changes, Duplicate, Memory, ResourceOp, Tree};
@@ -14,17 +14,28 @@ a/b a/c b
 a/b/c a/c b/c
 a a.b b/a b/c";
 
-const PATHS: [&str; 6] = ["a", "a/b", "a/c", "a.b", "b", "b/c"];
+const PATHS: &str = "a
+a/b
+a/c
+a.b
+b
+b/c";
 
-const OPTIONS: [(bool, bool); 4] = [(false, false), (false, true), (true, false), (true, true)];
+/// Whether an operation puts its file in place of another, or deletes a folder; and whether it may come to nothing.
+const OPTIONS: &str = "
+ignore
+overwrite recursive
+overwrite recursive ignore";
 
-/// The tree with the changes in it: what goes away, and then what is put.
-fn change(alloc: Global, tree: &mut Tree, changes: &Changes) -> Result<(), Memory> {
+fn take_away(tree: &mut Tree, changes: &Changes) {
     for change in changes.as_slice() {
         if change.after.is_none() {
             tree.remove(&change.path);
         }
     }
+}
+
+fn put_new(alloc: Global, tree: &mut Tree, changes: &Changes) -> Result<(), Memory> {
     for change in changes.as_slice() {
         if let Some(after) = &change.after {
             put(tree, change.path.duplicate(alloc)?, after.duplicate(alloc)?)?;
@@ -38,7 +49,8 @@ fn quickly(alloc: Global, files: &str, op: &ResourceOp) -> Result<String, Fail> 
     let mut tree = tree_of(alloc, files)?;
     match operate(alloc, &tree, op) {
         Ok(changes) => {
-            change(alloc, &mut tree, &changes)?;
+            take_away(&mut tree, &changes);
+            put_new(alloc, &mut tree, &changes)?;
             Ok(listed(alloc, &tree)?)
         }
         Err(why) => Ok(name_of(alloc, &why)?),
@@ -53,6 +65,7 @@ fn slowly(alloc: Global, files: &str, op: &ResourceOp) -> Result<String, Fail> {
     }
 }
 
+/// Over each tree.
 fn agree(alloc: Global, op: &ResourceOp) -> Result<bool, Fail> {
     for files in TREES.lines() {
         if quickly(alloc, files, op)?.as_str() != slowly(alloc, files, op)?.as_str() {
@@ -62,45 +75,40 @@ fn agree(alloc: Global, op: &ResourceOp) -> Result<bool, Fail> {
     Ok(true)
 }
 
-fn creates_agree(alloc: Global, at: &str) -> Result<bool, Fail> {
-    for (overwrite, ignore) in OPTIONS {
-        let path = path(alloc, at)?;
-        let op = ResourceOp::Create {
-            path,
-            overwrite,
-            ignore,
-        };
-        if !agree(alloc, &op)? {
+/// With all options.
+fn all_agree(alloc: Global, asked: &str) -> Result<bool, Fail> {
+    for options in OPTIONS.lines() {
+        let asked = format!(in alloc; "{asked} {options}")?;
+        if !agree(alloc, &op_of(alloc, asked.as_str())?)? {
             return Ok(false);
         }
     }
     Ok(true)
 }
 
-fn deletes_agree(alloc: Global, at: &str) -> Result<bool, Fail> {
-    for (recursive, ignore) in OPTIONS {
-        let path = path(alloc, at)?;
-        let op = ResourceOp::Delete {
-            path,
-            recursive,
-            ignore,
-        };
-        if !agree(alloc, &op)? {
+fn renames_agree(alloc: Global, from: &str) -> Result<bool, Fail> {
+    for to in PATHS.lines() {
+        let asked = format!(in alloc; "rename {from} {to}")?;
+        if !all_agree(alloc, asked.as_str())? {
             return Ok(false);
         }
     }
     Ok(true)
 }
 
-fn renames_agree(alloc: Global, from: &str, to: &str) -> Result<bool, Fail> {
-    for (overwrite, ignore) in OPTIONS {
-        let op = ResourceOp::Rename {
-            from: path(alloc, from)?,
-            to: path(alloc, to)?,
-            overwrite,
-            ignore,
-        };
-        if !agree(alloc, &op)? {
+fn agree_at_each(alloc: Global, word: &str) -> Result<bool, Fail> {
+    for path in PATHS.lines() {
+        let asked = format!(in alloc; "{word} {path}")?;
+        if !all_agree(alloc, asked.as_str())? {
+            return Ok(false);
+        }
+    }
+    Ok(true)
+}
+
+fn renames_agree_from_each(alloc: Global) -> Result<bool, Fail> {
+    for from in PATHS.lines() {
+        if !renames_agree(alloc, from)? {
             return Ok(false);
         }
     }
@@ -109,12 +117,8 @@ fn renames_agree(alloc: Global, from: &str, to: &str) -> Result<bool, Fail> {
 
 #[test]
 fn both_ways_agree(rt: HostRuntime) -> Result<(), Fail> {
-    for path in PATHS {
-        assert!(rt; creates_agree(rt.alloc(), path)?, "{path}");
-        assert!(rt; deletes_agree(rt.alloc(), path)?, "{path}");
-        for to in PATHS {
-            assert!(rt; renames_agree(rt.alloc(), path, to)?, "{path} {to}");
-        }
-    }
+    assert!(rt; agree_at_each(rt.alloc(), "create")?);
+    assert!(rt; agree_at_each(rt.alloc(), "delete")?);
+    assert!(rt; renames_agree_from_each(rt.alloc())?);
     Ok(())
 }

@@ -53,27 +53,30 @@ fn is_right(alloc: Global, row: &str) -> Result<bool, Fail> {
     Ok(answer(alloc, &tree, &op)?.as_str() == wanted)
 }
 
+fn are_right(alloc: Global, rows: &str) -> Result<bool, Fail> {
+    for row in rows.lines() {
+        if !is_right(alloc, row)? {
+            return Ok(false);
+        }
+    }
+    Ok(true)
+}
+
 #[test]
 fn creates_have_their_answers(rt: HostRuntime) -> Result<(), Fail> {
-    for row in CREATES.lines() {
-        assert!(rt; is_right(rt.alloc(), row)?, "{row}");
-    }
+    assert!(rt; are_right(rt.alloc(), CREATES)?);
     Ok(())
 }
 
 #[test]
 fn renames_have_their_answers(rt: HostRuntime) -> Result<(), Fail> {
-    for row in RENAMES.lines() {
-        assert!(rt; is_right(rt.alloc(), row)?, "{row}");
-    }
+    assert!(rt; are_right(rt.alloc(), RENAMES)?);
     Ok(())
 }
 
 #[test]
 fn deletes_have_their_answers(rt: HostRuntime) -> Result<(), Fail> {
-    for row in DELETES.lines() {
-        assert!(rt; is_right(rt.alloc(), row)?, "{row}");
-    }
+    assert!(rt; are_right(rt.alloc(), DELETES)?);
     Ok(())
 }
 

@@ -1,7 +1,7 @@
 // Trees and operations from text, and answers as text.
 use std::alloc::Global;
 use std::test::Fail;
-use wse_path::{Bytes, Changes, Memory, RelPath, ResourceOp, Tree};
+use wse_path::{Bytes, Change, Changes, Memory, RelPath, ResourceOp, Tree};
 use wse_resource::{OpRefused, operate};
 
 /// The path with this text.
@@ -69,42 +69,50 @@ fn renaming(
     overwrite: bool,
     ignore: bool,
 ) -> Result<ResourceOp, Fail> {
+    let to = path(alloc, to)?;
     Ok(ResourceOp::Rename {
         from,
-        to: path(alloc, to)?,
+        to,
         overwrite,
         ignore,
     })
 }
 
-fn push_text(text: &mut String, bytes: &Option<Bytes>) -> Result<(), Memory> {
-    match bytes {
-        None => text.push('-')?,
-        Some(bytes) => {
-            for byte in bytes.as_slice() {
-                text.push(char::from(*byte))?;
-            }
-        }
+/// Each byte as a character.
+pub fn push_bytes(text: &mut String, bytes: &[u8]) -> Result<(), Memory> {
+    for byte in bytes {
+        text.push(char::from(*byte))?;
     }
     Ok(())
+}
+
+fn bytes_or_dash(bytes: &Option<Bytes>) -> &[u8] {
+    match bytes {
+        Some(bytes) => bytes.as_slice(),
+        None => b"-",
+    }
+}
+
+fn push_change(alloc: Global, text: &mut String, change: &Change) -> Result<(), Memory> {
+    text.push_str(change.path.text(alloc)?.as_str())?;
+    text.push(' ')?;
+    push_bytes(text, bytes_or_dash(&change.before))?;
+    text.push('>')?;
+    push_bytes(text, bytes_or_dash(&change.after))
 }
 
 /// Each changed path with its old and its new text.
 pub fn text_of(alloc: Global, changes: &Changes) -> Result<String, Memory> {
     let mut text = String::new(alloc);
     for change in changes.as_slice() {
-        text.push_str(change.path.text(alloc)?.as_str())?;
-        text.push(' ')?;
-        push_text(&mut text, &change.before)?;
-        text.push('>')?;
-        push_text(&mut text, &change.after)?;
+        push_change(alloc, &mut text, change)?;
         text.push(';')?;
     }
     Ok(text)
 }
 
 /// A name with a path behind it.
-pub fn name_with(alloc: Global, name: &str, path: &RelPath) -> Result<String, Memory> {
+fn name_with(alloc: Global, name: &str, path: &RelPath) -> Result<String, Memory> {
     let mut text = String::from_str(alloc, name)?;
     text.push_str(path.text(alloc)?.as_str())?;
     Ok(text)
@@ -134,17 +142,19 @@ pub fn answer(alloc: Global, tree: &Tree, op: &ResourceOp) -> Result<String, Mem
     }
 }
 
+fn push_file(alloc: Global, text: &mut String, tree: &Tree, path: &RelPath) -> Result<(), Memory> {
+    text.push_str(path.text(alloc)?.as_str())?;
+    text.push('=')?;
+    push_bytes(text, tree.get(path).unwrap_or(b"?"))?;
+    Ok(text.push(';')?)
+}
+
 /// Each file with its bytes.
 pub fn listed(alloc: Global, tree: &Tree) -> Result<String, Memory> {
     let mut text = String::new(alloc);
     for index in 0..tree.count() {
         if let Some(path) = tree.path_at(index) {
-            text.push_str(path.text(alloc)?.as_str())?;
-            text.push('=')?;
-            for byte in tree.get(path).unwrap_or(b"?") {
-                text.push(char::from(*byte))?;
-            }
-            text.push(';')?;
+            push_file(alloc, &mut text, tree, path)?;
         }
     }
     Ok(text)

@@ -1,9 +1,9 @@
 // Trees with changes over them, and operations one after another.
-use crate::given::{bytes, name_of, op_of, path, text_of, tree_of};
+use crate::given::{bytes, name_of, op_of, path, push_bytes, text_of, tree_of};
 use std::alloc::Global;
 use std::test::Fail;
-use wse_path::{Bytes, Contents, Memory, Overlay, RelPath, Tree};
-use wse_resource::operate_on;
+use wse_path::{Bytes, Contents, Files, Memory, Overlay, RelPath, ResourceOp, Tree};
+use wse_resource::{OpRefused, operate_on};
 
 /// Puts a file that fits, or is there, and else nothing.
 fn put(overlay: &mut Overlay<'_>, path: RelPath, bytes: Bytes) -> Result<(), Memory> {
@@ -25,34 +25,31 @@ fn changed<'a>(alloc: Global, tree: &'a Tree, gone: &str, new: &str) -> Result<O
     Ok(overlay)
 }
 
-fn push_bytes(text: &mut String, bytes: Option<&[u8]>) -> Result<(), Memory> {
-    match bytes {
-        None => text.push('-')?,
-        Some(bytes) => {
-            for byte in bytes {
-                text.push(char::from(*byte))?;
-            }
+fn push_above(alloc: Global, text: &mut String, above: Option<&RelPath>) -> Result<(), Memory> {
+    match above {
+        Some(file) => {
+            text.push_str(" beneath ")?;
+            Ok(text.push_str(file.text(alloc)?.as_str())?)
         }
+        None => Ok(()),
+    }
+}
+
+fn push_under(alloc: Global, text: &mut String, files: &Files) -> Result<(), Memory> {
+    for file in files.as_slice() {
+        text.push(' ')?;
+        text.push_str(file.text(alloc)?.as_str())?;
     }
     Ok(())
 }
 
 /// The text of a file, the file above it, whether it is a folder, and the files under it.
-fn seen(alloc: Global, overlay: &Overlay<'_>, at: &str) -> Result<String, Fail> {
-    let at = path(alloc, at)?;
+fn seen(alloc: Global, overlay: &Overlay<'_>, at: &RelPath) -> Result<String, Memory> {
     let mut text = String::new(alloc);
-    push_bytes(&mut text, overlay.get(&at))?;
-    if let Some(file) = overlay.file_above(&at) {
-        text.push_str(" beneath ")?;
-        text.push_str(file.text(alloc)?.as_str())?;
-    }
-    if overlay.is_folder(&at) {
-        text.push_str(" holds")?;
-    }
-    for file in overlay.under(alloc, &at)?.as_slice() {
-        text.push(' ')?;
-        text.push_str(file.text(alloc)?.as_str())?;
-    }
+    push_bytes(&mut text, overlay.get(at).unwrap_or(b"-"))?;
+    push_above(alloc, &mut text, overlay.file_above(at))?;
+    text.push_str(if overlay.is_folder(at) { " holds" } else { "" })?;
+    push_under(alloc, &mut text, &overlay.under(alloc, at)?)?;
     Ok(text)
 }
 
@@ -77,26 +74,47 @@ fn shows(alloc: Global, overlay: &Overlay<'_>, row: &str) -> Result<bool, Fail> 
     let mut parts = row.split('|');
     let at = parts.next().unwrap_or("").trim();
     let wanted = parts.next().unwrap_or("?").trim();
-    Ok(seen(alloc, overlay, at)?.as_str() == wanted)
+    Ok(seen(alloc, overlay, &path(alloc, at)?)?.as_str() == wanted)
+}
+
+fn shows_all(alloc: Global, overlay: &Overlay<'_>, rows: &str) -> Result<bool, Fail> {
+    for row in rows.lines() {
+        if !shows(alloc, overlay, row)? {
+            return Ok(false);
+        }
+    }
+    Ok(true)
+}
+
+fn shows_after(
+    alloc: Global,
+    files: &str,
+    gone: &str,
+    new: &str,
+    rows: &str,
+) -> Result<bool, Fail> {
+    let tree = tree_of(alloc, files)?;
+    let overlay = changed(alloc, &tree, gone, new)?;
+    shows_all(alloc, &overlay, rows)
 }
 
 #[test]
 fn a_file_in_place_of_a_folder_is_shown(rt: HostRuntime) -> Result<(), Fail> {
-    let tree = tree_of(rt.alloc(), "a d/x")?;
-    let overlay = changed(rt.alloc(), &tree, "d/x", "d")?;
-    for row in FILE_FOR_FOLDER.lines() {
-        assert!(rt; shows(rt.alloc(), &overlay, row)?, "{row}");
-    }
+    assert!(rt; shows_after(rt.alloc(), "a d/x", "d/x", "d", FILE_FOR_FOLDER)?);
     Ok(())
 }
 
 #[test]
 fn a_folder_in_place_of_a_file_is_shown(rt: HostRuntime) -> Result<(), Fail> {
-    let tree = tree_of(rt.alloc(), "a b.c d/x d/z")?;
-    let overlay = changed(rt.alloc(), &tree, "a d/x", "a/c a/b d/y")?;
-    for row in FOLDER_FOR_FILE.lines() {
-        assert!(rt; shows(rt.alloc(), &overlay, row)?, "{row}");
-    }
+    assert!(rt;
+        shows_after(
+            rt.alloc(),
+            "a b.c d/x d/z",
+            "a d/x",
+            "a/c a/b d/y",
+            FOLDER_FOR_FILE
+        )?
+    );
     Ok(())
 }
 
@@ -110,15 +128,26 @@ a b | rename a c; create b; delete a | exists not found a a>-;c ->a;
 a | delete a; create a/b; create a; delete a recursive; create a | is a folder a a>;
 a/b a/c | delete a recursive; delete a; rename a b | not found not found a/b a/b>-;a/c a/c>-;";
 
+fn name_and_space(alloc: Global, why: &OpRefused) -> Result<String, Memory> {
+    let mut name = name_of(alloc, why)?;
+    name.push(' ')?;
+    Ok(name)
+}
+
+/// Does the operation, and tells the refusal.
+fn refusal(alloc: Global, overlay: &mut Overlay<'_>, op: &ResourceOp) -> Result<String, Memory> {
+    match operate_on(alloc, overlay, op) {
+        Ok(()) => Ok(String::new(alloc)),
+        Err(why) => name_and_space(alloc, &why),
+    }
+}
+
 fn answered(alloc: Global, tree: &Tree, asked: &str) -> Result<String, Fail> {
     let mut overlay = Overlay::new(alloc, tree);
     let mut text = String::new(alloc);
     for one in asked.split(';') {
         let op = op_of(alloc, one.trim())?;
-        if let Err(why) = operate_on(alloc, &mut overlay, &op) {
-            text.push_str(name_of(alloc, &why)?.as_str())?;
-            text.push(' ')?;
-        }
+        text.push_str(refusal(alloc, &mut overlay, &op)?.as_str())?;
     }
     let changes = overlay.into_changes(alloc)?;
     text.push_str(text_of(alloc, &changes)?.as_str())?;
@@ -133,10 +162,17 @@ fn runs_right(alloc: Global, row: &str) -> Result<bool, Fail> {
     Ok(answered(alloc, &tree, asked)?.as_str() == wanted)
 }
 
+fn run_right(alloc: Global, rows: &str) -> Result<bool, Fail> {
+    for row in rows.lines() {
+        if !runs_right(alloc, row)? {
+            return Ok(false);
+        }
+    }
+    Ok(true)
+}
+
 #[test]
 fn operations_go_on_over_their_changes(rt: HostRuntime) -> Result<(), Fail> {
-    for row in RUNS.lines() {
-        assert!(rt; runs_right(rt.alloc(), row)?, "{row}");
-    }
+    assert!(rt; run_right(rt.alloc(), RUNS)?);
     Ok(())
 }
