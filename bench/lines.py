@@ -2,8 +2,9 @@
 """Prints how long the built program takes for a line.
 
 First over more and more creates in nested folders, which come in path order, and then in an order that scatters them. Then for
-one command over many files: a folder is renamed, renamed past as many other files, and deleted. `bin/wsedit`, run once before,
-builds the program."""
+one command over many files: a folder is renamed, renamed past as many other files, and deleted. Then for one edit of many text
+operations, over more and more files, and for one that renames as many files and edits each. `bin/wsedit`, run once before, builds
+the program."""
 
 import os
 import subprocess
@@ -15,6 +16,7 @@ PROGRAM = os.path.join(TOP, "crates", "wsedit", "out", "wsedit")
 COMMAND = [PROGRAM, "run", "t", "s", "file:///w"]
 COUNTS = (1_000, 8_000, 64_000)
 FOLDERS = (1_000, 4_000, 16_000)
+OPERATIONS = (40, 400)
 
 
 def paths(count):
@@ -28,16 +30,28 @@ def scattered(items):
     return [items[i * step % len(items)] for i in range(len(items))]
 
 
-def edit(operation):
-    return f'{{"do":"edit","edit":{{"documentChanges":[{{{operation}}}]}}}}\n'
+def edit(*operations):
+    changes = ",".join(f"{{{operation}}}" for operation in operations)
+    return f'{{"do":"edit","edit":{{"documentChanges":[{changes}]}}}}\n'
 
 
 def create(path):
     return edit(f'"kind":"create","uri":"file:///w/{path}"')
 
 
+def renaming(old, new):
+    return f'"kind":"rename","oldUri":"file:///w/{old}","newUri":"file:///w/{new}"'
+
+
 def rename(old, new):
-    return edit(f'"kind":"rename","oldUri":"file:///w/{old}","newUri":"file:///w/{new}"')
+    return edit(renaming(old, new))
+
+
+def inserting(path):
+    """A text operation that inserts a character at the start of the file."""
+    start = '{"line":0,"character":0}'
+    insert = f'{{"range":{{"start":{start},"end":{start}}},"newText":"x"}}'
+    return f'"textDocument":{{"uri":"file:///w/{path}","version":null}},"edits":[{insert}]'
 
 
 def delete(path):
@@ -106,6 +120,23 @@ def folders():
             before = took
 
 
+def edits():
+    """One edit of many operations, on files that are scattered over the tree."""
+    for name, change in (
+        ("text operations", lambda chosen: [inserting(path) for path in chosen]),
+        ("renames, and as many text operations", lambda chosen: [renaming(path, f"{path}.new") for path in chosen]
+            + [inserting(f"{path}.new") for path in chosen]),
+    ):
+        for operations in OPERATIONS:
+            first = None
+            for count in COUNTS:
+                lines = [create(path) for path in paths(count)]
+                took = answer_seconds(lines, edit(*change(scattered(paths(count))[:operations])))
+                first = first or took
+                print(f"one edit of {operations} {name}: {count} files, {took * 1e3:.1f} milliseconds, {took / first:.2f} times")
+
+
 if __name__ == "__main__":
     creates()
     folders()
+    edits()
