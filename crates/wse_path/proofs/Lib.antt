@@ -1,6 +1,7 @@
 pub mod PathLemmas
 pub mod PathOrder
 pub mod EntryLemmas
+pub mod EqLemmas
 pub mod MergeLemmas
 pub mod TreeLemmas
 pub mod SumLemmas

@@ -1,5 +1,5 @@
 -- Paths of two lists put together, and the changes of an overlay.
-use Rattle.std.proofs.Common.{◌≡◌, ℕ, Bool, true, false, cond, ◌&&◌, ◌||◌, List, [], ◌∷◌, map, Option, Some, None, MatchOption, refl, sym, ap, subst, ◌∙◌}
+use Rattle.std.proofs.Common.{◌≡◌, ℕ, Bool, true, false, cond, not, ◌&&◌, ◌||◌, List, [], ◌∷◌, map, Option, Some, None, MatchOption, refl, sym, ap, subst, ◌∙◌}
 use Rattle.std.specs.Prelude.{is_some, flat_map}
 use Rattle.std.specs.Option.{option_or, option_map}
 use Rattle.std.specs.List.{AllByRecursion}
@@ -71,6 +71,18 @@ merged gone put below p keys s is =
     (sorted_put_each (marked (paths_under put p)) (put_each (marked (paths_under (kept gone below) p)) []) (sorted_put_each (marked (paths_under (kept gone below) p)) [] refl))
     (sorted_where (λ q. is_under q p) (shown gone put below) (rises_shown gone put below s))
     (has_merged put (kept gone below) p)
+
+-- where nothing was put under a path, the paths under it are those that are left
+pub only_kept : (gone : List Path) (put below : Entries) (p : Path) → is_sorted path_cmp below ≡ true
+    → paths_under put p ≡ [] → paths_under (kept gone below) p ≡ paths_under (shown gone put below) p
+only_kept gone put below p s none =
+    let left = kept gone below in
+    same_keys (under p left) (under p (shown gone put below))
+    (sorted_where (λ q. is_under q p) left (sorted_where (λ q. not (is_among gone q)) below s))
+    (sorted_where (λ q. is_under q p) (shown gone put below) (rises_shown gone put below s))
+    (λ q. sym (has_put_each (marked (paths_under left p)) [] q ∙ has_marked (under p left) q)
+    ∙ ap (λ (ps : List Path). is_some (find path_cmp q (put_each (marked ps) (put_each (marked (paths_under left p)) [])))) (sym none)
+    ∙ has_merged put left p q)
 
 -- ---- the order of a map of std
 

@@ -1,6 +1,6 @@
 -- Paths below the root: lists of segments, each the list of its bytes.
-use Rattle.std.specs.Prelude.{◌≡◌, ℕ, Bool, ◌||◌, ◌==◌, nat_lt, take, ◌&&◌, List, map, length, position, Option, Some, None, codes, String, string_bytes, if◌then◌else◌}
-use Rattle.std.specs.List.{list_any, join_with_byte}
+use Rattle.std.specs.Prelude.{◌≡◌, ℕ, Bool, ◌||◌, ◌==◌, nat_lt, take, ◌&&◌, List, map, length, position, Option, Some, None, ◌++◌, codes, decimal, String, string_bytes, if◌then◌else◌}
+use Rattle.std.specs.List.{list_any, join_with_byte, slice_split}
 use Rattle.std.specs.Str.{bytes_eq}
 use Rattle.std.specs.Cmp.Lexicographic.{pointwise}
 use Rattle.wse_path.specs.declared.path.PathRefused.{PathRefused}
@@ -25,6 +25,10 @@ is_bad s = length s == 0 || nat_lt 255 (length s) || bytes_eq s (codes ".") || b
 abbrev pub text_of : Path → List ℕ
 text_of ss = join_with_byte 47 ss
 
+-- The pieces between the slashes of a text: one more than there are slashes.
+abbrev pub pieces_of : List ℕ → Path
+pieces_of text = slice_split (λ b. b == 47) text
+
 abbrev pub refusal_within : Path → Option ℕ → Option PathRefused
 refusal_within ss (Some index) = Some (Segment index)
 refusal_within ss None = if nat_lt 4096 (length (text_of ss)) then Some (TooLong (length (text_of ss))) else None
@@ -43,3 +47,10 @@ IsPath ss = refusal ss ≡ None
 -- The second path is a strict prefix of the first.
 abbrev pub is_under : Path → Path → Bool
 is_under p q = nat_lt (length q) (length p) && pointwise bytes_eq q (take (length q) p)
+
+-- Why the segments are no path, in words.
+abbrev pub words_of : PathRefused → List ℕ
+words_of Empty = codes "no segment"
+words_of (TooDeep depth) = decimal depth ++ codes " segments"
+words_of (Segment index) = codes "segment " ++ (decimal index ++ codes " is not a name")
+words_of (TooLong bytes) = decimal bytes ++ codes " bytes"

@@ -5,6 +5,9 @@ use Rattle.std.specs.List.{list_any}
 use Rattle.std.specs.FinMap.{find, put, is_sorted}
 use Rattle.std.specs.FinMap.Entries.{where_key}
 use Rattle.std.specs.Ordering.{eq_by_cmp, is_lt}
+use Rattle.std.specs.Prelude.{nat_eq, ◌&&◌}
+use Rattle.std.specs.Cmp.{IsPartialEquivalence, and_per, on_per, partial_equiv_from_equiv}
+use Rattle.std.specs.Cmp.Lexicographic.{pointwise, lists_per, lists_equiv, nat_list_eq_equiv}
 use Rattle.wse_path.specs.Path.{Path, is_under}
 use Rattle.wse_path.specs.Order.{path_cmp}
 use Rattle.wse_path.specs.PathMap.{set_value}
@@ -88,3 +91,10 @@ pub record TreeState : Type 0 where
 -- The bytes of all files, or 2^64-1 where they are more.
 abbrev pub total_bytes : Entries → ℕ
 total_bytes files = min (sum_by (λ e. length e.1) files) (2 ^ 64 - 1)
+
+-- The same files: equal paths with equal bytes.
+abbrev pub same_files : Entries → Entries → Bool
+same_files = pointwise (λ a b. pointwise (pointwise nat_eq) a.0 b.0 && pointwise nat_eq a.1 b.1)
+
+pub same_files_laws : IsPartialEquivalence same_files
+same_files_laws = lists_per (and_per (on_per (λ e. e.0) (partial_equiv_from_equiv (lists_equiv nat_list_eq_equiv))) (on_per (λ e. e.1) (partial_equiv_from_equiv nat_list_eq_equiv)))

@@ -2,6 +2,9 @@
 use Rattle.std.specs.Prelude.{◌≡◌, ℕ, ◌+◌, ◌-◌, ◌^◌, min, true, List, [], ◌∷◌, length, sum_by}
 use Rattle.std.specs.FinMap.{find, put, is_sorted}
 use Rattle.std.specs.Option.{unwrap_or}
+use Rattle.std.specs.Prelude.{Bool, nat_eq, ◌&&◌}
+use Rattle.std.specs.Cmp.{IsPartialEquivalence, and_per, on_per, partial_equiv_from_equiv, nat_eq_equiv}
+use Rattle.std.specs.Cmp.Lexicographic.{pointwise, lists_per, lists_equiv, nat_list_eq_equiv}
 use Rattle.wse_path.specs.Path.{Path, text_of}
 use Rattle.wse_path.specs.Order.{path_cmp}
 
@@ -32,3 +35,10 @@ bumped_by (b ∷ more) entries = bumped_by more (bumped entries b.0 b.1)
 -- own rule.
 abbrev pub known : Numbers → ℕ
 known entries = min (sum_by (λ e. 32 + length (text_of e.0)) entries) (2 ^ 64 - 1)
+
+-- The same entries: equal paths with equal numbers.
+abbrev pub same_entries : Numbers → Numbers → Bool
+same_entries = pointwise (λ a b. pointwise (pointwise nat_eq) a.0 b.0 && nat_eq a.1 b.1)
+
+pub same_entries_laws : IsPartialEquivalence same_entries
+same_entries_laws = lists_per (and_per (on_per (λ e. e.0) (partial_equiv_from_equiv (lists_equiv nat_list_eq_equiv))) (on_per (λ e. e.1) (partial_equiv_from_equiv nat_eq_equiv)))

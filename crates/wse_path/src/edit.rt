@@ -81,3 +81,14 @@ pub struct Edit {
     pub encoding: Encoding,
     pub operations: Operations,
 }
+
+impl Duplicate for Edit {
+    fn duplicate(&self, alloc: Global) -> Result<Edit, Memory> {
+        Ok(Edit {
+            label: self.label.duplicate(alloc)?,
+            failure: self.failure,
+            encoding: self.encoding,
+            operations: self.operations.duplicate(alloc)?,
+        })
+    }
+}

@@ -1,10 +1,13 @@
 // Lists that answers hold, and copies that may find no memory.
 ghost use Rattle.std.specs.Prelude.{◌≡◌, length, nat_eq, IfOk};
+ghost use Rattle.std.specs.Iterator.Adapters.{IterYieldsInOrder};
+ghost use Rattle.std.specs.Slice.Iter.{iter_rest};
 
 use crate::memory::Memory;
 use crate::path::RelPath;
 use std::alloc::Global;
 use std::marker::Model;
+use std::slice::Iter;
 
 /// A value of which a second one can be made.
 pub trait Duplicate {
@@ -91,6 +94,49 @@ impl<T> Items<T> {
     {
         &self.all
     }
+
+    /// The items one after another.
+    pub fn iter(&self) -> Iter<'_, T>
+        ensures items { iter_rest result ≡ self.now }
+        ensures order { IterYieldsInOrder T }
+    {
+        self.all.iter()
+    }
+}
+
+impl<'a, T> IntoIterator for &'a Items<T> {
+    type Item = &'a T;
+
+    type IntoIter = Iter<'a, T>;
+
+    ghost use Rattle.std.specs.Prelude.{◌≡◌, ℕ, ◌^◌, ◌<◌, length};
+    ghost use Rattle.std.specs.Slice.Iter.{iter_rest};
+    ghost use Rattle.std.specs.Iterator.Adapters.{IterYieldsInOrder};
+
+    ghost into_iter_gives = { λ items it. (iter_rest it ≡ items.now) × (length (iter_rest it) < 2 ^ 64) × IterYieldsInOrder T };
+
+    fn into_iter(self) -> Iter<'a, T> {
+        self.all.iter()
+    }
+}
+
+/// Item by item.
+impl<T: PartialEq> PartialEq for Items<T> {
+    ghost use Rattle.std.specs.Cmp.Lexicographic.{pointwise, lists_per};
+
+    ghost eq = { pointwise T.eq };
+
+    ghost laws = { lists_per T.laws };
+
+    fn eq(&self, other: &Items<T>) -> bool {
+        self.all == other.all
+    }
+}
+
+impl<T: Eq> Eq for Items<T> {
+    ghost use Rattle.std.specs.Cmp.Lexicographic.{lists_equiv};
+
+    ghost laws = { lists_equiv T.Eq.laws };
 }
 
 impl<T: Duplicate + Drop> Duplicate for Items<T> {

@@ -1,8 +1,9 @@
 // Look-ups in files that were put over a tree, and in a tree of which some files are gone.
-ghost use Rattle.std.specs.Prelude.{◌≡◌, IfOk, OnOk};
+ghost use Rattle.std.specs.Prelude.{◌≡◌, not, IfOk, OnOk};
+ghost use Rattle.std.specs.List.{filter};
 ghost use Rattle.std.specs.Option.{option_copied};
 ghost use Rattle.wse_path.specs.Tree.{content, file_above, is_folder, paths_under};
-ghost use Rattle.wse_path.specs.Overlay.{kept, shown, put_each, marked, AreApart};
+ghost use Rattle.wse_path.specs.Overlay.{is_among, kept, shown, put_each, marked, AreApart};
 
 use crate::items::{Bytes, Duplicate, Files};
 use crate::memory::Memory;
@@ -101,6 +102,19 @@ fn put_paths(alloc: Global, put: &Put, path: &RelPath) -> Result<Vec<RelPath>, M
     Ok(paths)
 }
 
+/// Those of the files that aren't gone, in the order in which they come.
+fn not_gone(alloc: Global, gone: &Gone, files: Vec<RelPath>) -> Result<Vec<RelPath>, Memory>
+    ensures { IfOk result (λ paths. paths.items ≡ filter (λ q. not (is_among gone.now.keys q)) files.items) }
+{
+    let mut paths = Vec::with_capacity(alloc, files.len())?;
+    for file in files {
+        if !gone.contains(&file) {
+            paths.push(file)?;
+        }
+    }
+    Ok(paths)
+}
+
 /// The files of the tree under the path that aren't gone, in path order.
 fn kept_paths(
     alloc: Global,
@@ -111,13 +125,7 @@ fn kept_paths(
     ensures { IfOk result (λ paths. paths.items ≡ paths_under (kept gone.now.keys tree.now.files) path.now) }
 {
     let below = tree.under(alloc, path)?;
-    let mut paths = Vec::new(alloc);
-    for file in below.as_slice() {
-        if !gone.contains(file) {
-            paths.push(file.duplicate(alloc)?)?;
-        }
-    }
-    Ok(paths)
+    Ok(not_gone(alloc, gone, below.into_vec())?)
 }
 
 /// Adds the paths.
@@ -141,9 +149,14 @@ pub fn paths_shown(
     ensures { IfOk result
         (λ files. files ≡ paths_under (shown gone.now.keys put.now.entries tree.now.files) path.now) }
 {
+    let kept = kept_paths(alloc, tree, gone, path)?;
+    let added = put_paths(alloc, put, path)?;
+    if added.is_empty() {
+        return Ok(Files::new(kept));
+    }
     let mut all = BTreeSet::new(alloc);
-    add_all(&mut all, kept_paths(alloc, tree, gone, path)?)?;
-    add_all(&mut all, put_paths(alloc, put, path)?)?;
+    add_all(&mut all, kept)?;
+    add_all(&mut all, added)?;
     Ok(Files::new(listed(alloc, all)?))
 }
 

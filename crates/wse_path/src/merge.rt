@@ -1,6 +1,7 @@
 // Many paths of a map changed in one pass over the entries from the first of them on.
 ghost use Rattle.std.specs.Prelude.{◌≡◌, ◌+◌, ◌<◌, ◌≤◌, ◌∷◌, ◌++◌, List, Option, [], Some, length, reverse, min, true, unwrap_or, ◌-◌, ◌^◌};
 ghost use Rattle.std.specs.FinMap.{put, is_sorted};
+ghost use Rattle.std.specs.Option.{option_copied};
 ghost use Rattle.std.specs.Vec.{vec_capacity};
 ghost use Rattle.std.specs.declared.cmp.Ordering.TheVariants.{Less};
 ghost use Rattle.wse_path.specs.Order.{path_cmp};
@@ -17,18 +18,25 @@ pub trait Update<V>: Drop {
     ghost updated: { Self → Option V → Option V };
 
     /// The value in place of the one that is there.
-    fn update(self, old: Option<V>) -> Option<V>
-        ensures { result ≡ updated self old };
+    fn update(self, was: Option<&V>) -> Option<V>
+        ensures { result ≡ updated self (option_copied was.entry) };
+
+    /// Whether there is a value afterwards. It decides what a change costs, not what it does.
+    fn keeps(&self) -> bool;
 }
 
 /// Another value, or none.
 impl<V: Drop> Update<V> for Option<V> {
     ghost updated = { λ new old. new };
 
-    fn update(self, _old: Option<V>) -> Option<V>
+    fn update(self, _was: Option<&V>) -> Option<V>
         ensures { result ≡ self }
     {
         self
+    }
+
+    fn keeps(&self) -> bool {
+        self.is_some()
     }
 }
 
@@ -36,10 +44,14 @@ impl<V: Drop> Update<V> for Option<V> {
 impl Update<u32> for u32 {
     ghost updated = { λ by old. Some (min (unwrap_or old 0 + by) (2 ^ 32 - 1)) };
 
-    fn update(self, old: Option<u32>) -> Option<u32>
-        ensures { result ≡ Some (min (unwrap_or old 0 + self) (2 ^ 32 - 1)) }
+    fn update(self, was: Option<&u32>) -> Option<u32>
+        ensures { result ≡ Some (min (unwrap_or (option_copied was.entry) 0 + self) (2 ^ 32 - 1)) }
     {
-        Some(old.unwrap_or(0).saturating_add(self))
+        Some(was.copied().unwrap_or(0).saturating_add(self))
+    }
+
+    fn keeps(&self) -> bool {
+        true
     }
 }
 
@@ -104,7 +116,7 @@ fn set_next<V: Weighed, C: Update<V>>(
     ensures rest_capacity { vec_capacity rest.new ≡ vec_capacity rest.old }
 {
     let old = take_at(row, rest, &path);
-    match item.update(old) {
+    match item.update(old.as_ref()) {
         Some(value) => row.push(path, value),
         None => (),
     }

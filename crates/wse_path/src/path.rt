@@ -137,6 +137,13 @@ impl RelPath {
         self.segments.get(index).map(String::as_str)
     }
 
+    /// The segments.
+    pub fn segments(&self) -> &[String]
+        ensures { bytes_of result.now ≡ self.now }
+    {
+        &self.segments
+    }
+
     /// How many bytes the text has: at most 4,096.
     pub fn text_len(&self) -> usize
         ensures len { result ≡ length (text_of self.now) }
@@ -162,7 +169,7 @@ impl RelPath {
 
 impl Duplicate for RelPath {
     fn duplicate(&self, alloc: Global) -> Result<RelPath, Memory> {
-        let mut segments = Vec::new(alloc);
+        let mut segments = Vec::with_capacity(alloc, self.segments.len())?;
         for segment in &self.segments {
             segments.push(String::from_str(alloc, segment.as_str())?)?;
         }

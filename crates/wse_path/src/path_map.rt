@@ -3,7 +3,7 @@ ghost use Rattle.std.specs.Prelude.{◌≡◌, ◌+◌, ◌-◌, ◌<◌, ◌≤
 ghost use Rattle.std.specs.FinMap.{put, is_sorted};
 ghost use Rattle.std.specs.Option.{option_copied};
 ghost use Rattle.wse_path.specs.Order.{path_cmp};
-ghost use Rattle.wse_path.specs.PathMap.{weight_of, capped, value_at, without, update_all};
+ghost use Rattle.wse_path.specs.PathMap.{weight_of, capped, value_at, without, set_value, update_all};
 ghost use Rattle.wse_path.specs.Place.{HasKeyAt, IsGapAt, all_before};
 
 use crate::items::Duplicate;
@@ -13,6 +13,10 @@ use crate::path::RelPath;
 use crate::row::{Row, Weighed};
 use std::alloc::Global;
 use std::marker::Model;
+
+/// How many paths come or go one by one at most. Making room for one is a move of the entries behind it in one piece, which
+/// costs about a hundredth of a pass over them.
+const FEW: usize = 100;
 
 /// A finite map from paths, which keeps the sum of what its entries count for. Contracts see its entries in path order,
 /// that their paths rise, and how many more find room without taking memory.
@@ -200,9 +204,45 @@ impl<V: Weighed> PathMap<V> {
         self.row.remove(at);
     }
 
-    /// Sets each path to what its item makes of the value there, in room that is there: one pass over the entries from
-    /// the first of the paths on. Takes no memory.
-    pub fn update_all<C: Update<V>>(&mut self, items: Vec<(RelPath, C)>)
+    // How many of the paths come or go.
+    fn moves<C: Update<V>>(&self, items: &[(RelPath, C)]) -> usize {
+        let mut moves: usize = 0;
+        for item in items {
+            if self.get(&item.0).is_some() != item.1.keeps() {
+                moves = moves.saturating_add(1);
+            }
+        }
+        moves
+    }
+
+    // Sets the path to what its item makes of the value there.
+    fn update_one<C: Update<V>>(&mut self, path: RelPath, item: C)
+        requires room { 0 < self.old.spare }
+        ensures entries { self.new.entries
+            ≡ set_value self.old.entries path (C.updated item (value_at self.old.entries path)) }
+        ensures spare { self.old.spare ≤ self.new.spare + 1 }
+    {
+        match item.update(self.get(&path)) {
+            Some(value) => self.put_reserved(path, value),
+            None => {
+                let _ = self.remove(&path);
+            }
+        }
+    }
+
+    // One path after another.
+    fn update_singly<C: Update<V>>(&mut self, items: Vec<(RelPath, C)>)
+        requires room { length items.items ≤ self.old.spare }
+        ensures entries { self.new.entries ≡ update_all C.updated items.items self.old.entries }
+        ensures spare { self.old.spare ≤ self.new.spare + length items.items }
+    {
+        for (path, item) in items {
+            self.update_one(path, item);
+        }
+    }
+
+    // One pass over the entries from the first of the paths on.
+    fn update_in_a_pass<C: Update<V>>(&mut self, items: Vec<(RelPath, C)>)
         requires rises { is_sorted path_cmp items.items ≡ true }
         requires room { length items.items ≤ self.old.spare }
         ensures entries { self.new.entries ≡ update_all C.updated items.items self.old.entries }
@@ -215,6 +255,21 @@ impl<V: Weighed> PathMap<V> {
         unload(&mut self.row, &mut self.rest, at);
         set_each(&mut self.row, &mut self.rest, items);
         restore(&mut self.row, &mut self.rest);
+    }
+
+    /// Sets each path to what its item makes of the value there, in room that is there. Takes no memory. It costs a
+    /// search for each path; where more than a few come or go, one pass over the entries from the first of them on.
+    pub fn update_all<C: Update<V>>(&mut self, items: Vec<(RelPath, C)>)
+        requires rises { is_sorted path_cmp items.items ≡ true }
+        requires room { length items.items ≤ self.old.spare }
+        ensures entries { self.new.entries ≡ update_all C.updated items.items self.old.entries }
+        ensures spare { self.old.spare ≤ self.new.spare + length items.items }
+    {
+        if self.moves(&items) <= FEW {
+            self.update_singly(items);
+        } else {
+            self.update_in_a_pass(items);
+        }
     }
 }
 

@@ -12,6 +12,12 @@ pub struct Position {
     pub character: u64,
 }
 
+impl Duplicate for Position {
+    fn duplicate(&self, _alloc: Global) -> Result<Position, Memory> {
+        Ok(*self)
+    }
+}
+
 /// What `character` counts (LSP 3.17, "PositionEncodingKind").
 #[derive(Debug, Clone, Copy, PartialEq, Eq)]
 pub enum Encoding {

@@ -48,6 +48,13 @@ impl Text {
     {
         self.text.as_str()
     }
+
+    /// Takes the text out. Takes no memory.
+    pub fn into_string(self) -> String
+        ensures { string_bytes result ≡ self }
+    {
+        self.text
+    }
 }
 
 impl Duplicate for Text {
@@ -55,4 +62,27 @@ impl Duplicate for Text {
         let text = String::from_str(alloc, self.text.as_str())?;
         Ok(Text { text })
     }
+}
+
+impl PartialEq for Text {
+    ghost use Rattle.std.specs.Prelude.{nat_eq, ◌≡◌, ◌↔◌, IsTrue};
+    ghost use Rattle.std.specs.Cmp.Lexicographic.{pointwise, nat_list_eq_equiv};
+    ghost use Rattle.std.specs.Cmp.{partial_equiv_from_equiv};
+
+    ghost eq = { pointwise nat_eq };
+
+    ghost laws = { partial_equiv_from_equiv nat_list_eq_equiv };
+
+    fn eq(&self, other: &Text) -> bool
+        ensures eq { result ≡ pointwise nat_eq self.now other.now }
+        ensures same { IsTrue result ↔ (self.now ≡ other.now) }
+    {
+        self.text.as_str() == other.text.as_str()
+    }
+}
+
+impl Eq for Text {
+    ghost use Rattle.std.specs.Cmp.Lexicographic.{nat_list_eq_equiv};
+
+    ghost laws = { nat_list_eq_equiv };
 }

@@ -67,6 +67,16 @@ impl Tree {
         self.map.path_at(index)
     }
 
+    /// The bytes of the file with that index in path order.
+    pub fn bytes_at(&self, index: usize) -> Option<&[u8]>
+        ensures { option_copied result ≡ slice_get (map (λ e. e.1) self.now.files) index }
+    {
+        match self.map.as_slice().get(index) {
+            Some(entry) => Some(entry.1.as_slice()),
+            None => None,
+        }
+    }
+
     /// The bytes at the path. Takes no memory.
     pub fn get(&self, path: &RelPath) -> Option<&[u8]>
         ensures { option_copied result ≡ content self.now.files path.now }
@@ -181,45 +191,42 @@ impl Tree {
         self.map.remove(path)
     }
 
-    // Sets one path, so that nothing but the entries behind it is moved.
-    fn set(&mut self, path: RelPath, bytes: Option<Bytes>)
-        requires tree { IsTree (set_file self.old.files path bytes) }
-        requires room { 0 < self.old.spare }
-        ensures files { self.new.files ≡ set_file self.old.files path bytes }
-        ensures spare { self.old.spare ≤ self.new.spare + 1 }
-    {
-        match bytes {
-            Some(bytes) => self.map.put_reserved(path, bytes),
-            None => {
-                let _ = self.map.remove(&path);
-            }
-        }
-    }
-
-    /// Sets each path to its bytes, or takes it away where it has none, in room that is there. Takes no memory. However
-    /// many paths there are, it is one pass over the files from the first of them on.
-    pub fn set_all(&mut self, mut contents: Vec<(RelPath, Option<Bytes>)>)
+    /// Sets each path to its bytes, or takes it away where it has none, in room that is there. Takes no memory. It costs a
+    /// search for each path; where more than a few come or go, one pass over the files from the first of them on.
+    pub fn set_all(&mut self, contents: Vec<(RelPath, Option<Bytes>)>)
         requires rises { is_sorted path_cmp contents.items ≡ true }
         requires tree { IsTree (set_files contents.items self.old.files) }
         requires room { length contents.items ≤ self.old.spare }
         ensures files { self.new.files ≡ set_files contents.items self.old.files }
         ensures spare { self.old.spare ≤ self.new.spare + length contents.items }
     {
-        if contents.len() != 1 {
-            self.map.update_all(contents);
-            return;
-        }
-        match contents.pop() {
-            Some((path, bytes)) => self.set(path, bytes),
-            None => (),
-        }
+        self.map.update_all(contents);
     }
 
-    /// A tree with the same files. How much room it has is its own matter.
+    /// A tree with the same files. How much room it has is its own matter, so this isn't `Duplicate`, whose copies are equal
+    /// in all that contracts see.
     pub fn duplicate(&self, alloc: Global) -> Result<Tree, Memory>
         ensures { IfOk result (λ copy. copy.files ≡ self.now.files) }
     {
         let map = self.map.duplicate(alloc)?;
         Ok(Tree { map })
+    }
+}
+
+/// Whether the files are the same. How much room there is doesn't count.
+impl PartialEq for Tree {
+    ghost use Rattle.std.specs.Prelude.{◌≡◌, ◌↔◌, IsTrue};
+    ghost use Rattle.std.specs.Cmp.{on_per};
+    ghost use Rattle.wse_path.specs.Tree.{same_files, same_files_laws};
+
+    ghost eq = { λ a b. same_files a.files b.files };
+
+    ghost laws = { on_per (λ t. t.files) same_files_laws };
+
+    fn eq(&self, other: &Tree) -> bool
+        ensures eq { result ≡ same_files self.now.files other.now.files }
+        ensures same { IsTrue result ↔ (self.now.files ≡ other.now.files) }
+    {
+        self.map.as_slice() == other.map.as_slice()
     }
 }

@@ -65,6 +65,16 @@ impl Versions {
         self.map.path_at(index)
     }
 
+    /// The version of the entry with that index in path order.
+    pub fn number_at(&self, index: usize) -> Option<u32>
+        ensures { result ≡ slice_get (map (λ e. e.1) self.now.entries) index }
+    {
+        match self.map.as_slice().get(index) {
+            Some(entry) => Some(entry.1),
+            None => None,
+        }
+    }
+
     /// The version of the path: 0 where it has no entry. Takes no memory.
     pub fn get(&self, path: &RelPath) -> u32
         ensures { result ≡ version_of self.now.entries path.now }
@@ -84,6 +94,7 @@ impl Versions {
     /// Raises the path's version, which ends at 2^31-1 (LSP 3.17, "integer"). Takes no memory, and one of the room at
     /// most.
     pub fn bump(&mut self, path: RelPath, by: u32)
+        requires some { 0 < by }
         requires room { 0 < self.old.spare }
         requires small { version_of self.old.entries path + by ≤ 2 ^ 31 - 1 }
         ensures entries { self.new.entries ≡ bumped self.old.entries path by }
@@ -93,30 +104,43 @@ impl Versions {
         self.map.put_reserved(path, number);
     }
 
-    /// Raises the versions of these paths, in room that is there. Takes no memory. However many paths there are, it is
-    /// one pass over the entries from the first of them on.
-    pub fn bump_all(&mut self, mut bumps: Vec<(RelPath, u32)>)
+    /// Raises the versions of these paths, in room that is there. Takes no memory. It costs a search
+    /// for each path; where more than a few are new, one pass over the entries from the first of them on. By 0 a path
+    /// without an entry gets one.
+    pub fn bump_all(&mut self, bumps: Vec<(RelPath, u32)>)
         requires rises { is_sorted path_cmp bumps.items ≡ true }
         requires room { length bumps.items ≤ self.old.spare }
         requires small { All (λ b. version_of self.old.entries b.0 + b.1 ≤ 2 ^ 31 - 1) bumps.items }
         ensures entries { self.new.entries ≡ bumped_by bumps.items self.old.entries }
         ensures spare { self.old.spare ≤ self.new.spare + length bumps.items }
     {
-        if bumps.len() != 1 {
-            self.map.update_all(bumps);
-            return;
-        }
-        match bumps.pop() {
-            Some((path, by)) => self.bump(path, by),
-            None => (),
-        }
+        self.map.update_all(bumps);
     }
 
-    /// Versions with the same entries. How much room they have is their own matter.
+    /// Versions with the same entries. How much room they have is their own matter, so this isn't `Duplicate`, whose copies
+    /// are equal in all that contracts see.
     pub fn duplicate(&self, alloc: Global) -> Result<Versions, Memory>
         ensures { IfOk result (λ copy. copy.entries ≡ self.now.entries) }
     {
         let map = self.map.duplicate(alloc)?;
         Ok(Versions { map })
+    }
+}
+
+/// Whether the entries are the same. How much room there is doesn't count.
+impl PartialEq for Versions {
+    ghost use Rattle.std.specs.Prelude.{◌≡◌, ◌↔◌, IsTrue};
+    ghost use Rattle.std.specs.Cmp.{on_per};
+    ghost use Rattle.wse_path.specs.Versions.{same_entries, same_entries_laws};
+
+    ghost eq = { λ a b. same_entries a.entries b.entries };
+
+    ghost laws = { on_per (λ v. v.entries) same_entries_laws };
+
+    fn eq(&self, other: &Versions) -> bool
+        ensures eq { result ≡ same_entries self.now.entries other.now.entries }
+        ensures same { IsTrue result ↔ (self.now.entries ≡ other.now.entries) }
+    {
+        self.map.as_slice() == other.map.as_slice()
     }
 }

@@ -5,6 +5,8 @@
 #[cfg(test)]
 mod copies;
 #[cfg(test)]
+mod equal;
+#[cfg(test)]
 mod limits;
 #[cfg(test)]
 mod locks;
@@ -14,6 +16,8 @@ mod make;
 mod many;
 #[cfg(test)]
 mod paths;
+#[cfg(test)]
+mod texts;
 #[cfg(test)]
 mod trees;
 #[cfg(test)]

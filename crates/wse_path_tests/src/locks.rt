@@ -74,6 +74,13 @@ fn a_lock_is_freed_by_its_holder(rt: HostRuntime) -> Result<(), Fail> {
     Ok(())
 }
 
+#[test]
+fn a_lock_that_is_not_held_is_told(rt: HostRuntime) -> Result<(), Fail> {
+    let told = NotHeld { index: 1 }.to_string(rt.alloc())?;
+    assert!(rt; told.as_str() == "path 1 is not held");
+    Ok(())
+}
+
 fn is_freed_once(alloc: Global, locks: &mut Locks) -> Result<bool, Fail> {
     Ok(
         takes(alloc, locks, 2, "a b")?

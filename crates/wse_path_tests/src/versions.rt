@@ -6,7 +6,7 @@ use wse_path::{Duplicate, RelPath, Versions};
 // Raises the path's version.
 fn raise(alloc: Global, versions: &mut Versions, file: &RelPath, by: u32) -> Result<bool, Fail> {
     versions.reserve(1)?;
-    if versions.get(file) >= 9 || by >= 9 {
+    if versions.get(file) >= 9 || by >= 9 || by == 0 {
         return Ok(false);
     }
     versions.bump(file.duplicate(alloc)?, by);
@@ -80,5 +80,31 @@ fn knows_one_more(alloc: Global, versions: &mut Versions) -> Result<bool, Fail> 
 fn a_new_path_is_one_more_that_is_known(rt: HostRuntime) -> Result<(), Fail> {
     let mut versions = Versions::new(rt.alloc());
     assert!(rt; knows_one_more(rt.alloc(), &mut versions)?);
+    Ok(())
+}
+
+// Versions with that number at the path, and room for as many more.
+fn versions_at(alloc: Global, text: &str, number: u32, room: usize) -> Result<Versions, Fail> {
+    let mut versions = Versions::new(alloc);
+    raise(alloc, &mut versions, &path(alloc, text)?, number)?;
+    versions.reserve(room)?;
+    Ok(versions)
+}
+
+fn are_equal(alloc: Global, text: &str, number: u32) -> Result<bool, Fail> {
+    Ok(versions_at(alloc, "d/x", 2, 0)? == versions_at(alloc, text, number, 9)?)
+}
+
+fn is_number(alloc: Global, index: usize) -> Result<bool, Fail> {
+    Ok(versions_at(alloc, "d/x", 2, 0)?.number_at(index) == Some(2))
+}
+
+#[test]
+fn equal_versions_have_equal_entries(rt: HostRuntime) -> Result<(), Fail> {
+    let alloc = rt.alloc();
+    assert!(rt; are_equal(alloc, "d/x", 2)?);
+    assert!(rt; !are_equal(alloc, "d/x", 3)?);
+    assert!(rt; !are_equal(alloc, "d/y", 2)?);
+    assert!(rt; is_number(alloc, 0)? && !is_number(alloc, 1)?);
     Ok(())
 }

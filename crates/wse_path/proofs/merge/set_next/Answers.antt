@@ -11,13 +11,13 @@ returns-in-Some-clause-set g c =
     ap (λ (l : List (Path × g.row.V.Denot)). l ++ reverse c.take_at-old.new.rest.items) c.push.ensures.items
     ∙ pushed c.take_at-old.new.row.items (reverse c.take_at-old.new.rest.items) (c.args.path, c.in-Some.value)
     ∙ c.take_at-old.ensures.placed c.in-Some.value
-    ∙ ap (set_value all c.args.path) (c.in-Some.ensures ∙ ap (g.C.Update.updated c.args.item) c.take_at-old.ensures.value)
+    ∙ ap (set_value all c.args.path) (c.in-Some.ensures ∙ ap (g.C.Update.updated c.args.item) (c.as_ref.ensures.value ∙ c.take_at-old.ensures.value))
 
 pub returns-in-None-clause-set : goal.returns-in-None-clause-set
 returns-in-None-clause-set g c =
     let all = c.args.row.now.items ++ reverse c.args.rest.now.items in
     c.take_at-old.ensures.without
-    ∙ ap (set_value all c.args.path) (c.in-None.ensures ∙ ap (g.C.Update.updated c.args.item) c.take_at-old.ensures.value)
+    ∙ ap (set_value all c.args.path) (c.in-None.ensures ∙ ap (g.C.Update.updated c.args.item) (c.as_ref.ensures.value ∙ c.take_at-old.ensures.value))
 
 pub returns-in-Some-clause-before : goal.returns-in-Some-clause-before
 returns-in-Some-clause-before g c = λ q later.

@@ -8,7 +8,7 @@ invariant_of-self-inside c =
     let is : c.self.inside.map.entries ≡ c.args.self.now.files = ap (λ (t : TreeState). t.files) c.self.view_is in
     (subst IsTree (sym (c.update_all.ensures.entries ∙ set_files_is c.args.contents.items c.self.inside.map.entries ∙ ap (λ (es : Entries). set_files c.args.contents.items es) is)) c.requires.tree, tt)
 
-pub returns-then-len-ne1-clause-files : goal.returns-then-len-ne1-clause-files
-returns-then-len-ne1-clause-files c =
+pub returns-clause-files : goal.returns-clause-files
+returns-clause-files c =
     let is : c.self.inside.map.entries ≡ c.args.self.now.files = ap (λ (t : TreeState). t.files) c.self.view_is in
     c.update_all.ensures.entries ∙ set_files_is c.args.contents.items c.self.inside.map.entries ∙ ap (λ (es : Entries). set_files c.args.contents.items es) is

@@ -5,8 +5,8 @@ use Rattle.wse_path.specs.Versions.{Numbers, VersionsState}
 use Rattle.wse_path.proofs.VersionLemmas.{added, IsSmall, bumped_by_is}
 use Rattle.wse_path.proofs.versions.Versions.bump_all.Goals as goal
 
-pub returns-then-len-ne1-clause-entries : goal.returns-then-len-ne1-clause-entries
-returns-then-len-ne1-clause-entries c =
+pub returns-clause-entries : goal.returns-clause-entries
+returns-clause-entries c =
     let is : c.self.inside.map.entries ≡ c.args.self.now.entries = ap (λ (v : VersionsState). v.entries) c.self.view_is in
     c.update_all.ensures.entries
     ∙ ap (λ (es : Numbers). update_all added c.args.bumps.items es) is

@@ -4,7 +4,7 @@ use Rattle.wse_path.specs.Order.{path_cmp}
 use Rattle.wse_path.specs.Path.{Path}
 use Rattle.wse_path.specs.PathMap.{update_all}
 use Rattle.wse_path.proofs.MergeLemmas.{sorted_update}
-use Rattle.wse_path.proofs.path_map.PathMap.update_all.Goals as goal
+use Rattle.wse_path.proofs.path_map.PathMap.update_in_a_pass.Goals as goal
 
 pub invariant_of-self-inside : goal.invariant_of-self-inside
 invariant_of-self-inside g c =
