@@ -1,5 +1,7 @@
 // Why edits are refused.
 use std::alloc::{AllocError, AllocFailed};
+use std::error::Error;
+use std::fmt;
 use wse_path::Memory;
 
 /// Why edits of a text can't be made. Edits are numbered as the list is, from 0, skipped ones too.
@@ -46,3 +48,24 @@ impl<T: Drop> From<AllocFailed<T>> for EditsRefused {
         EditsRefused::Memory
     }
 }
+
+impl fmt::Display for EditsRefused {
+    ghost use Rattle.std.specs.Prelude.{Some};
+    ghost use Rattle.wse_edits.specs.Words.{refused_text};
+
+    ghost output = { λ why. Some (refused_text why) };
+
+    fn fmt<W: fmt::Write>(&self, f: &mut fmt::Formatter<W>) -> fmt::Result {
+        match *self {
+            EditsRefused::Inside { edit, char_start } => {
+                write!(f, "edit {edit}: inside the character at byte {char_start}")
+            }
+            EditsRefused::Overlap { first, second } => {
+                write!(f, "edits {first} and {second} overlap")
+            }
+            EditsRefused::Memory => f.write_str("out of memory"),
+        }
+    }
+}
+
+impl Error for EditsRefused {}

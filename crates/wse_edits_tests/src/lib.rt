@@ -7,3 +7,5 @@ mod edits;
 mod places;
 #[cfg(test)]
 mod splices;
+#[cfg(test)]
+mod words;

@@ -5,7 +5,7 @@ ghost use Rattle.wse_splice.specs.Splice.{Fits};
 
 use std::alloc::Global;
 use std::test::Fail;
-use wse_path::{Memory, Text};
+use wse_path::{Duplicate, Memory, Text};
 use wse_splice::{Splice, apply};
 
 fn lie_within(splices: &[Splice], len: usize) -> bool
@@ -62,5 +62,24 @@ fn texts_stand_in_place_of_ranges(rt: HostRuntime) -> Result<(), Fail> {
     assert!(rt; makes(alloc, &[], "abc")?);
     assert!(rt; makes(alloc, &[(0, 3, "")], "")?);
     assert!(rt; makes(alloc, &[(3, 3, "d")], "abcd")?);
+    Ok(())
+}
+
+/// The copy of a splice is put in as the splice is.
+fn copies_make(alloc: Global, list: &[Given], want: &str) -> Result<bool, Memory> {
+    let mut copies = Vec::new(alloc);
+    for splice in &splices_of(alloc, list)? {
+        copies.push(splice.duplicate(alloc)?)?;
+    }
+    if !fit(&copies, 3) {
+        return Ok(false);
+    }
+    let after = apply(alloc, b"abc", &copies)?;
+    Ok(after.as_slice() == want.as_bytes())
+}
+
+#[test]
+fn copies_are_equal(rt: HostRuntime) -> Result<(), Fail> {
+    assert!(rt; copies_make(rt.alloc(), &[(1, 1, "1"), (1, 2, "Z")], "a1Zc")?);
     Ok(())
 }

@@ -2,7 +2,7 @@
 use std::alloc::Global;
 use std::test::Fail;
 use wse_path::RelPath;
-use wse_uri::{RootRefused, path_of, root_of, uri_of};
+use wse_uri::{RootRefused, UriRefused, path_of, root_of, uri_of};
 
 /// The path of one segment.
 fn path_with(alloc: Global, segment: &str) -> Result<RelPath, Fail> {
@@ -71,6 +71,53 @@ fn each_refusal_comes_in_its_case(rt: HostRuntime) -> Result<(), Fail> {
     assert!(rt; all_are_refused(rt.alloc(), "file:///w/")?);
     assert!(rt; all_are_refused(rt.alloc(), "file:///w")?);
     Ok(())
+}
+
+const WORDS: &str = "w/a => not a URL
+http://h/w/a => not a file URI
+file://h/w/a => has a host
+file:///w/a? => has a query
+file:///w/a#x => has a fragment
+file:///v/a => outside the root
+file:///w/ => is the root
+file:///w/%FF => segment 0 is not UTF-8
+file:///w/a//b => segment 1 is not a name";
+
+/// Whether the row's URI is refused in the row's words.
+fn is_refused_in_words(alloc: Global, root: &str, row: &str) -> Result<bool, Fail> {
+    let (uri, want) = row.split_once(" => ").ok_or("a row without an arrow")?;
+    let root = root_of(alloc, root)?;
+    match path_of(alloc, &root, uri) {
+        Ok(_) => Ok(false),
+        Err(why) => Ok(why.to_string(alloc)?.as_str() == want),
+    }
+}
+
+fn all_are_refused_in_words(alloc: Global, root: &str) -> Result<bool, Fail> {
+    for row in WORDS.lines() {
+        if !is_refused_in_words(alloc, root, row)? {
+            return Ok(false);
+        }
+    }
+    Ok(true)
+}
+
+#[test]
+fn refusals_have_their_words(rt: HostRuntime) -> Result<(), Fail> {
+    assert!(rt; all_are_refused_in_words(rt.alloc(), "file:///w/")?);
+    Ok(())
+}
+
+/// The path that the URI names below the root, the root being a text too.
+fn path_below(alloc: Global, root: &str, uri: &str) -> Result<RelPath, UriRefused> {
+    let root = root_of(alloc, root)?;
+    path_of(alloc, &root, uri)
+}
+
+#[test]
+fn without_a_root_a_uri_is_outside(rt: HostRuntime) {
+    let refused = path_below(rt.alloc(), "http://h/", "file:///w/a").err();
+    assert!(rt; refused == Some(UriRefused::OutsideRoot));
 }
 
 const NO_ROOTS: &str = "w

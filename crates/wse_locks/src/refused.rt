@@ -1,4 +1,6 @@
 // Why locks aren't taken or freed.
+use std::error::Error;
+use std::fmt;
 use wse_path::{Files, Memory};
 
 /// Why locks aren't taken.
@@ -26,3 +28,17 @@ impl From<Memory> for LockRefused {
 pub struct NotHeld {
     pub index: usize,
 }
+
+impl fmt::Display for NotHeld {
+    ghost use Rattle.std.specs.Prelude.{Some};
+    ghost use Rattle.wse_locks.specs.Words.{not_held_text};
+
+    ghost output = { λ why. Some (not_held_text why) };
+
+    fn fmt<W: fmt::Write>(&self, f: &mut fmt::Formatter<W>) -> fmt::Result {
+        let index = self.index;
+        write!(f, "path {index} is not held")
+    }
+}
+
+impl Error for NotHeld {}

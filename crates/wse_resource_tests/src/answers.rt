@@ -14,8 +14,8 @@ d/x | create d | is a folder
 d/x | create d ignore | is a folder
 d/x | create d overwrite | is a folder
 d/x | create d overwrite ignore | is a folder
-d/x | create d/x/y overwrite ignore | beneath d/x
-d/x | create d/x/y/z | beneath d/x";
+d/x | create d/x/y overwrite ignore | beneath the file d/x
+d/x | create d/x/y/z | beneath the file d/x";
 
 const RENAMES: &str =
     "d/x d/y d/z | rename d e | d/x d/x>-;d/y d/y>-;d/z d/z>-;e/x ->d/x;e/y ->d/y;e/z ->d/z;
@@ -26,8 +26,8 @@ d/x | rename d/x d/x |
 d/x | rename d d |
 d/x d/y d/z | rename d d/in | into itself
 d/in d/x | rename d d/in | into itself
-d/x | rename d/x d overwrite ignore | holds source
-a b | rename a b/c overwrite ignore | beneath b
+d/x | rename d/x d overwrite ignore | target holds the source
+a b | rename a b/c overwrite ignore | beneath the file b
 a b | rename a b | exists
 a b | rename a b ignore |
 a b | rename a b overwrite | a a>-;b b>a;
@@ -39,7 +39,7 @@ d/x e | rename d e overwrite | d/x d/x>-;e e>-;e/x ->d/x;";
 
 const DELETES: &str = "a b | delete a | a a>-;
 a.b a/b | delete a.b recursive ignore | a.b a.b>-;
-d/x d/y d/z | delete d ignore | not empty
+d/x d/y d/z | delete d ignore | folder needs recursive
 d.x d/x d/y d/z | delete d recursive | d/x d/x>-;d/y d/y>-;d/z d/z>-;
 a | delete b recursive | not found
 a | delete a/b recursive | not found

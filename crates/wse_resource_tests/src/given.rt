@@ -111,27 +111,9 @@ pub fn text_of(alloc: Global, changes: &Changes) -> Result<String, Memory> {
     Ok(text)
 }
 
-/// A name with a path behind it.
-fn name_with(alloc: Global, name: &str, path: &RelPath) -> Result<String, Memory> {
-    let mut text = String::from_str(alloc, name)?;
-    text.push_str(path.text(alloc)?.as_str())?;
-    Ok(text)
-}
-
 /// A refusal in words.
 pub fn name_of(alloc: Global, why: &OpRefused) -> Result<String, Memory> {
-    let name = match why {
-        OpRefused::Exists => "exists",
-        OpRefused::IsFolder => "is a folder",
-        OpRefused::Beneath { file } => return name_with(alloc, "beneath ", file),
-        OpRefused::NotFound => "not found",
-        OpRefused::NotEmpty => "not empty",
-        OpRefused::IntoItself => "into itself",
-        OpRefused::HoldsSource => "holds source",
-        OpRefused::PathLimit { from } => return name_with(alloc, "path limit ", from),
-        OpRefused::Memory => "memory",
-    };
-    Ok(String::from_str(alloc, name)?)
+    Ok(why.to_string(alloc)?)
 }
 
 /// What the operation changes, or why it is refused.

@@ -48,7 +48,7 @@ fn moved(alloc: Global, to: &str) -> Result<ResourceOp, Fail> {
 }
 
 fn limit_at(alloc: Global, folder: &str, times: u8) -> Result<String, Memory> {
-    let mut text = String::from_str(alloc, "path limit")?;
+    let mut text = String::from_str(alloc, "path limit for")?;
     push_deep(&mut text, folder, times, "x")?;
     Ok(text)
 }

@@ -4,7 +4,7 @@ ghost use Rattle.std.specs.Str.{IsUtf8};
 ghost use Rattle.wse_splice.specs.Splice.{Fits, LieBetweenCharacters, spliced};
 
 use std::alloc::Global;
-use wse_path::{Bytes, Items, Memory, Text};
+use wse_path::{Bytes, Duplicate, Items, Memory, Text};
 
 /// A text in place of the bytes from `start` up to `end`, both counted from the start of the old text. Where they are
 /// equal it is an insert.
@@ -13,6 +13,16 @@ pub struct Splice {
     pub start: usize,
     pub end: usize,
     pub text: Text,
+}
+
+impl Duplicate for Splice {
+    fn duplicate(&self, alloc: Global) -> Result<Splice, Memory> {
+        Ok(Splice {
+            start: self.start,
+            end: self.end,
+            text: self.text.duplicate(alloc)?,
+        })
+    }
 }
 
 /// Splices of one text, in the order of their places.

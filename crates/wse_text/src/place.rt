@@ -4,6 +4,8 @@ ghost use Rattle.std.specs.Str.{IsCharBoundary};
 ghost use Rattle.wse_text.specs.Lines.{AreLineStarts};
 ghost use Rattle.wse_text.specs.Place.{ends_line, begins_line, line_starts, line_at, units_of, place_on_line, offset_of};
 
+use std::error::Error;
+use std::fmt;
 use wse_path::{Encoding, Position};
 
 /// The position lies inside a code point.
@@ -12,6 +14,20 @@ pub struct Inside {
     /// The place in the text at which the code point starts, in bytes.
     pub char_start: usize,
 }
+
+impl fmt::Display for Inside {
+    ghost use Rattle.std.specs.Prelude.{Some};
+    ghost use Rattle.wse_text.specs.Words.{inside_text};
+
+    ghost output = { λ why. Some (inside_text why) };
+
+    fn fmt<W: fmt::Write>(&self, f: &mut fmt::Formatter<W>) -> fmt::Result {
+        let char_start = self.char_start;
+        write!(f, "inside the character at byte {char_start}")
+    }
+}
+
+impl Error for Inside {}
 
 /// The place of the position in the text, in bytes: one pass to its line and through it. Takes no memory.
 ///

@@ -5,6 +5,8 @@ use Rattle.url.specs.Parts.{Parts, has_host}
 use Rattle.url.specs.Parser.{Parsed, parse_url}
 use Rattle.wse_uri.specs.declared.refused.UriRefused.{UriRefused}
 use Rattle.wse_uri.specs.declared.refused.UriRefused.TheVariants as refused
+use Rattle.wse_uri.specs.declared.refused.RootRefused.{RootRefused}
+use Rattle.wse_uri.specs.declared.refused.RootRefused.TheVariants as roots
 
 -- A file URL without host, query and fragment, which is what a root is. A query or fragment that is empty is there.
 pub record IsPlainFileUrl (url : Parts) : Type 0 where
@@ -33,3 +35,13 @@ file_url_if (Err why) = Err refused.NotUrl
 -- The file URL that the text parses to, or the first thing that is wrong with the text.
 abbrev pub file_url : List ℕ → Result Parts UriRefused
 file_url text = file_url_if (parse_url None text)
+
+-- A text that is refused is no root, whatever is wrong with it.
+abbrev pub root_refusal : UriRefused → RootRefused
+root_refusal refused.Memory = roots.Memory
+root_refusal why = roots.NotARoot
+
+-- Below a text that is no root no URI names a path: it is outside.
+abbrev pub uri_refusal : RootRefused → UriRefused
+uri_refusal roots.NotARoot = refused.OutsideRoot
+uri_refusal roots.Memory = refused.Memory

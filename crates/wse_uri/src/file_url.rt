@@ -47,9 +47,5 @@ pub fn root_of(alloc: Global, text: &str) -> Result<Url, RootRefused>
     ensures root { IfOk result IsPlainFileUrl }
     ensures refused { IfErr result (λ why. (why ≡ RootRefused.Memory) ⊎ ((why ≡ RootRefused.NotARoot) × ¬ IsRootText text.now)) }
 {
-    match parse_file_url(alloc, text) {
-        Ok(root) => Ok(root),
-        Err(UriRefused::Memory) => Err(RootRefused::Memory),
-        Err(_) => Err(RootRefused::NotARoot),
-    }
+    Ok(parse_file_url(alloc, text)?)
 }

@@ -1,6 +1,8 @@
 // Why a text names no path, or no root.
 use std::alloc::{AllocError, AllocFailed};
-use wse_path::PathRefused;
+use std::error::Error;
+use std::fmt;
+use wse_path::{Memory, PathRefused};
 
 /// Why a URI names no path below a root. The first cause in this order counts. This project's own rule.
 #[derive(Debug, Clone, Copy, PartialEq, Eq)]
@@ -25,6 +27,17 @@ pub enum UriRefused {
     Path(PathRefused),
     /// There was no memory for the answer. May come in place of any other answer.
     Memory,
+}
+
+impl From<Memory> for UriRefused {
+    ghost use Rattle.std.specs.Prelude.{◌≡◌};
+    ghost use Rattle.wse_uri.specs.declared.refused.UriRefused.TheVariants.{Memory};
+
+    ghost from_gives = { λ _ why. why ≡ Memory };
+
+    fn from(_: Memory) -> UriRefused {
+        UriRefused::Memory
+    }
 }
 
 impl From<AllocError> for UriRefused {
@@ -60,6 +73,30 @@ impl From<PathRefused> for UriRefused {
     }
 }
 
+impl fmt::Display for UriRefused {
+    ghost use Rattle.std.specs.Prelude.{Some};
+    ghost use Rattle.wse_uri.specs.Words.{uri_text};
+
+    ghost output = { λ why. Some (uri_text why) };
+
+    fn fmt<W: fmt::Write>(&self, f: &mut fmt::Formatter<W>) -> fmt::Result {
+        match *self {
+            UriRefused::NotUrl => f.write_str("not a URL"),
+            UriRefused::NotFile => f.write_str("not a file URI"),
+            UriRefused::HasHost => f.write_str("has a host"),
+            UriRefused::HasQuery => f.write_str("has a query"),
+            UriRefused::HasFragment => f.write_str("has a fragment"),
+            UriRefused::OutsideRoot => f.write_str("outside the root"),
+            UriRefused::IsRoot => f.write_str("is the root"),
+            UriRefused::Escape { segment } => write!(f, "segment {segment} is not UTF-8"),
+            UriRefused::Path(why) => write!(f, "{why}"),
+            UriRefused::Memory => f.write_str("out of memory"),
+        }
+    }
+}
+
+impl Error for UriRefused {}
+
 /// Why a text is no root.
 #[derive(Debug, Clone, Copy, PartialEq, Eq)]
 pub enum RootRefused {
@@ -68,3 +105,84 @@ pub enum RootRefused {
     /// There was no memory for the answer. May come in place of any other answer.
     Memory,
 }
+
+impl From<Memory> for RootRefused {
+    ghost use Rattle.std.specs.Prelude.{◌≡◌};
+    ghost use Rattle.wse_uri.specs.declared.refused.RootRefused.TheVariants.{Memory};
+
+    ghost from_gives = { λ _ why. why ≡ Memory };
+
+    fn from(_: Memory) -> RootRefused {
+        RootRefused::Memory
+    }
+}
+
+impl From<AllocError> for RootRefused {
+    ghost use Rattle.std.specs.Prelude.{◌≡◌};
+    ghost use Rattle.wse_uri.specs.declared.refused.RootRefused.TheVariants.{Memory};
+
+    ghost from_gives = { λ _ why. why ≡ Memory };
+
+    fn from(_: AllocError) -> RootRefused {
+        RootRefused::Memory
+    }
+}
+
+impl<T: Drop> From<AllocFailed<T>> for RootRefused {
+    ghost use Rattle.std.specs.Prelude.{◌≡◌};
+    ghost use Rattle.wse_uri.specs.declared.refused.RootRefused.TheVariants.{Memory};
+
+    ghost from_gives = { λ _ why. why ≡ Memory };
+
+    fn from(_: AllocFailed<T>) -> RootRefused {
+        RootRefused::Memory
+    }
+}
+
+/// Want of memory stays want of memory, and every other cause makes a text no root.
+impl From<UriRefused> for RootRefused {
+    ghost use Rattle.std.specs.Prelude.{◌≡◌};
+    ghost use Rattle.wse_uri.specs.FileUrl.{root_refusal};
+
+    ghost from_gives = { λ cause why. why ≡ root_refusal cause };
+
+    fn from(cause: UriRefused) -> RootRefused {
+        match cause {
+            UriRefused::Memory => RootRefused::Memory,
+            _ => RootRefused::NotARoot,
+        }
+    }
+}
+
+/// Below a text that is no root no URI names a path.
+impl From<RootRefused> for UriRefused {
+    ghost use Rattle.std.specs.Prelude.{◌≡◌};
+    ghost use Rattle.wse_uri.specs.FileUrl.{uri_refusal};
+
+    ghost from_gives = { λ cause why. why ≡ uri_refusal cause };
+
+    fn from(cause: RootRefused) -> UriRefused {
+        match cause {
+            RootRefused::NotARoot => UriRefused::OutsideRoot,
+            RootRefused::Memory => UriRefused::Memory,
+        }
+    }
+}
+
+impl fmt::Display for RootRefused {
+    ghost use Rattle.std.specs.Prelude.{Some};
+    ghost use Rattle.wse_uri.specs.Words.{root_text};
+
+    ghost output = { λ why. Some (root_text why) };
+
+    fn fmt<W: fmt::Write>(&self, f: &mut fmt::Formatter<W>) -> fmt::Result {
+        match *self {
+            RootRefused::NotARoot => {
+                f.write_str("not a file URL without host, query and fragment")
+            }
+            RootRefused::Memory => f.write_str("out of memory"),
+        }
+    }
+}
+
+impl Error for RootRefused {}
