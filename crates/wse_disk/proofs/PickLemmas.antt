@@ -1,5 +1,5 @@
 -- The image that is picked.
-use Rattle.std.proofs.Common.{◌≡◌, ◌⊎◌, inl, inr, ℕ, ◌≤◌, List, length, take, Option, Some, None, sym, ◌∙◌, ap, subst}
+use Rattle.std.proofs.Common.{◌≡◌, ◌⊎◌, inl, inr, ℕ, ◌≤◌, List, [], length, take, Option, Some, None, refl, sym, ◌∙◌, ap, subst}
 use Rattle.std.specs.Prelude.{MatchOption}
 use Rattle.wse_path.specs.Tree.{Entries, IsTree, TreeState}
 use Rattle.wse_disk.specs.declared.call.Call.{Call}
@@ -10,6 +10,8 @@ use Rattle.wse_disk.specs.Image.{IsImage}
 use Rattle.wse_disk.specs.Standing.{Pending, fresh}
 use Rattle.wse_disk.specs.Replay.{held, drafted, replay, pending_at, with_all}
 use Rattle.wse_disk.specs.Chosen.{left_from, IsChosen, Picks, IsPicked}
+use Rattle.wse_disk.specs.Told.{IsAtRest, IsSynced}
+use Rattle.wse_disk.proofs.ImageLemmas.{at_rest}
 use Rattle.wse_disk.proofs.ReplayLemmas.{moment_is}
 use Rattle.wse_disk.proofs.NearLemmas.{base_image, left_image, left_at_0, left_at_1}
 
@@ -61,3 +63,8 @@ pub all_kept : (p : Pending) (image : Reading) → IsChosen 1 p image → IsTree
 all_kept p image chosen tree =
     let same = left_at_1 p.base p.writes in
     chosen.tree (subst (λ (r : Reading). IsTree r.files) (sym same) tree) ∙ same
+
+-- Before its first call nothing is pending on a disk in memory.
+pub uncalled_rests : (d : MemState) → d.calls ≡ [] → IsAtRest (Some (standing d))
+uncalled_rests d none =
+    at_rest (Some (standing d)) d.sound.stays (subst (λ (cs : List Call). IsSynced (Some (replay (fresh d.first) cs))) (sym none) (refl, refl))

@@ -1,5 +1,5 @@
 // Changes made on a disk, and made last.
-ghost use Rattle.std.specs.Prelude.{◌≡◌, ◌≤◌, List, ℕ, Option, Some, None, OnOk, IsTrue, true};
+ghost use Rattle.std.specs.Prelude.{◌≡◌, ◌≤◌, [], List, ℕ, Option, Some, None, OnOk, IsTrue, true};
 ghost use Rattle.wse_path.specs.Causes.{HasCause};
 ghost use Rattle.wse_path.specs.Changes.{is_changed, erased_at, stored_at};
 ghost use Rattle.wse_path.specs.declared.change.Change.{Change};
@@ -137,6 +137,7 @@ pub fn change_synced<D: Disk>(disk: &mut D, changes: &[Change]) -> Result<(), Fa
     requires { LeadsToTree (D.told disk.old) changes.now }
     ensures changed { OnOk result (HasChanged changes.now (D.told disk.old) (D.told disk.new)) }
     ensures left { HasChangedOnly changes.now (D.told disk.old) (D.told disk.new) }
+    ensures untouched { changes.now ≡ [] → disk.new ≡ disk.old }
     ensures synced { IsSynced (D.told disk.old) → OnOk result (IsSynced (D.told disk.new)) }
     ensures later { D.moment_of disk.old ≤ D.moment_of disk.new }
     ensures cause { HasCause (D.faults disk.old) (D.faults disk.new) result }

@@ -10,6 +10,7 @@ ghost use Rattle.wse_disk.specs.Standing.{Writes, Syncs, IsImageOf};
 ghost use Rattle.wse_disk.specs.CallCounts.{uncalled, next_fails, finished};
 ghost use Rattle.wse_disk.specs.Replay.{held, drafted, first_of, replay, pending_at, with_all};
 ghost use Rattle.wse_disk.specs.Chosen.{IsChosen};
+ghost use Rattle.wse_disk.specs.Told.{IsAtRest};
 ghost use Rattle.wse_disk.specs.MemState.{reading, standing, IsSound, IsSound-prop, IsUnchanged, CountsOnly, Notes};
 
 use crate::area::Area;
@@ -167,6 +168,7 @@ impl MemDisk {
         ensures none { choice ≡ 0 → IfOk result (λ d. reading d ≡ (pending_at (standing self.now) moment).base) }
         ensures all { choice ≡ 1 → IfOk result (λ d. IsTree (with_all (pending_at (standing self.now) moment)).files
             → reading d ≡ with_all (pending_at (standing self.now) moment)) }
+        ensures rests { IfOk result (λ d. IsAtRest (Some (standing d))) }
         ensures calls { IfOk result (λ d. d.calls ≡ []) }
         ensures counts { IfOk result (λ d. d.counts ≡ uncalled []) }
     {

@@ -2,10 +2,10 @@
 ghost use Rattle.std.specs.Prelude.{◌≤◌};
 ghost use Rattle.wse_path.specs.Causes.{HasCause, Rose};
 
-use crate::script::{patch, tree};
+use crate::script::disk_after;
 use std::alloc::Global;
 use std::test::Fail;
-use wse_disk::{Area, Disk, Failed, MemDisk, Place, ReadErr, write_synced};
+use wse_disk::{Area, Disk, Failed, Place, ReadErr, write_synced};
 use wse_path::RelPath;
 
 // A disk that holds nothing, and fails in each call but `moment` once it is broken.
@@ -112,13 +112,12 @@ fn silent(is_broken: bool) -> bool {
 }
 
 fn told(alloc: Global) -> Result<bool, Fail> {
-    let mut disk = MemDisk::never_failing(alloc, tree(alloc, "b", "B")?);
-    let first = patch(&mut disk, 0, "abc");
+    let mut disk = disk_after(alloc, &[], "patch:0:abc")?;
     if disk.area(Area::LogA).len() != 3 {
         return Ok(false);
     }
     let wrote = write_synced(&mut disk, Area::LogA, 3, b"de").is_ok();
-    Ok(first && wrote && disk.area(Area::LogA) == b"abcde".as_slice() && disk.calls().len() == 3)
+    Ok(wrote && disk.area(Area::LogA) == b"abcde".as_slice() && disk.calls().len() == 3)
 }
 
 #[test]

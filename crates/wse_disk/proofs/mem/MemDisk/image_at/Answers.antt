@@ -3,7 +3,7 @@ use Rattle.wse_disk.specs.Reading.{Reading}
 use Rattle.wse_disk.specs.Replay.{held, drafted, pending_at}
 use Rattle.wse_disk.specs.Chosen.{IsChosen, IsPicked}
 use Rattle.wse_disk.specs.MemState.{MemState, standing, reading}
-use Rattle.wse_disk.proofs.PickLemmas.{base_of_moment, picked_at, none_kept, all_kept}
+use Rattle.wse_disk.proofs.PickLemmas.{base_of_moment, picked_at, none_kept, all_kept, uncalled_rests}
 use Rattle.wse_disk.proofs.mem.MemDisk.image_at.Goals as goal
 
 pub image_after-requires : goal.image_after-requires
@@ -60,3 +60,6 @@ returns-clause-all c = λ one.
     let same : reading c.of.result ≡ held it.tree.files it.areas = cc (c.of.ensures.reading) in
     let picks = subst (λ (r : Reading). IsPicked c.args.choice p r) (sym same) whole in
     all_kept p (reading c.of.result) (subst (λ (n : ℕ). IsChosen n p (reading c.of.result)) one picks.chosen)
+
+pub returns-clause-rests : goal.returns-clause-rests
+returns-clause-rests c = uncalled_rests c.of.result c.of.ensures.calls
