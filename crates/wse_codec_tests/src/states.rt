@@ -2,7 +2,9 @@
 use crate::made::{bytes, is_state_right};
 use std::alloc::Global;
 use std::test::Fail;
-use wse_codec::{Snapshot, read_state};
+use wse_codec::{Snapshot, read_state, write_state};
+use wse_element::Elements;
+use wse_path::Bumps;
 
 /// The first state of a store.
 const FIRST: &str = "\
@@ -36,6 +38,20 @@ fn is_first_read(alloc: Global) -> Result<bool, Fail> {
     Ok(is_first(&read_state(alloc, &body)?))
 }
 
+/// Whether the state that is made here, and not read, is written as these bytes.
+#[tactic(auto, using(crate::proofs::Writable::first_writable))]
+fn is_first_written(alloc: Global) -> Result<bool, Fail> {
+    let first = Snapshot {
+        serial: 0,
+        next_id: 1,
+        versions: Bumps::new(Vec::new(alloc)),
+        elements: Elements::new(Vec::new(alloc)),
+    };
+    let body = bytes(alloc, FIRST)?;
+    let written = write_state(alloc, &first)?;
+    Ok(written.as_slice() == body.as_slice())
+}
+
 fn are_right(alloc: Global) -> Result<bool, Fail> {
     for row in ROWS.split('\n') {
         if !is_state_right(alloc, row)? {
@@ -46,9 +62,10 @@ fn are_right(alloc: Global) -> Result<bool, Fail> {
 }
 
 #[test]
-fn states_are_read(rt: HostRuntime) -> Result<(), Fail> {
+fn states_are_read_and_written(rt: HostRuntime) -> Result<(), Fail> {
     let alloc = rt.alloc();
     assert!(rt; is_first_read(alloc)?);
+    assert!(rt; is_first_written(alloc)?);
     assert!(rt; are_right(alloc)?);
     Ok(())
 }

@@ -29,16 +29,20 @@ fn content(alloc: Global, text: &str) -> Result<Option<Bytes>, Fail> {
     Ok(Some(Bytes::new(text.as_bytes().to_vec(alloc)?)))
 }
 
-/// A live part that had the one content and left the other.
-pub fn change(alloc: Global, file: &str, was: &str, is: &str, valid: bool) -> Result<Part, Fail> {
-    let was = content(alloc, was)?;
-    let is = content(alloc, is)?;
-    let body = Body::Whole { was, is };
+/// A live part with that body.
+pub fn live_part(alloc: Global, file: &str, body: Body, valid: bool) -> Result<Part, Fail> {
     if !body.is_change() {
         return Err(Fail::new("no change"));
     }
     let path = path(alloc, file)?;
     Ok(Part::new(path, PartState::Live, valid, body))
+}
+
+/// A live part that had the one content and left the other.
+pub fn change(alloc: Global, file: &str, was: &str, is: &str, valid: bool) -> Result<Part, Fail> {
+    let was = content(alloc, was)?;
+    let is = content(alloc, is)?;
+    live_part(alloc, file, Body::Whole { was, is }, valid)
 }
 
 // A live part, as `PATH:OLD:NEW`.

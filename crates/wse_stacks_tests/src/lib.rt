@@ -12,6 +12,8 @@ mod effects;
 #[cfg(test)]
 mod given;
 #[cfg(test)]
+mod heavy;
+#[cfg(test)]
 mod lines;
 #[cfg(test)]
 mod random;
