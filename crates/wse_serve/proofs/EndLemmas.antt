@@ -69,11 +69,11 @@ one_cause (one_faults.Disk disk) before now source sink there = record { source 
 one_cause (one_faults.Memory disk) before now source sink there = record { source = source; sink = sink; disk = there }
 
 module _ {S : Type 0} (m : Machine S) (left_old left_now left_new : Option (List ℕ)) (pieces_old pieces_now : Option (List Piece)) (before here now : DiskAt) (end : ServeEnd)
-    (s u : S) (n most : ℕ) (r r' : Reader) (taken read : List ℕ) (done : List (List ℕ)) (ps : List Piece)
-    (reads : Reads left_old left_now r taken done) (answers : Answers m pieces_old pieces_now before here s u n done ps) (is_limit : r.max_input ≡ most) where
+    (s u : S) (n max_input : ℕ) (r r' : Reader) (taken read : List ℕ) (done : List (List ℕ)) (ps : List Piece)
+    (reads : Reads left_old left_now r taken done) (answers : Answers m pieces_old pieces_now before here s u n done ps) (is_limit : r.max_input ≡ max_input) where
   -- the run at this end
   abbrev pub AtEnd : Type 0
-  AtEnd = Runs m s most (scene left_old pieces_old before) (scene left_new pieces_now now) (ending_of end)
+  AtEnd = Runs m s max_input (scene left_old pieces_old before) (scene left_new pieces_now now) (ending_of end)
 
   abbrev pub all_lines : Bool → List (List ℕ)
   all_lines over = lines (take r.max_input (taken ++ read)) over
@@ -138,7 +138,7 @@ module _ {S : Type 0} (m : Machine S) (left_old left_now left_new : Option (List
   -- a line failed
   pub one_ends : {D : Type 0} (pieces_new : Option (List Piece)) (line : List ℕ) (fault : ServeFault D) (there : DiskAt) (qs : List Piece) → Hands left_now left_new r r' read (Ok (Text line)) → Adds pieces_now pieces_new qs
       → Ran m (is_disk_fault {D = D} (Err fault)) here there n u (line ∷ []) qs → now ≡ there → end ≡ end_of_one fault
-      → Runs m s most (scene left_old pieces_old before) (scene left_new pieces_new now) (ending_of end)
+      → Runs m s max_input (scene left_old pieces_old before) (scene left_new pieces_new now) (ending_of end)
   one_ends pieces_new line fault there qs h adds ran same is_end =
       let reads' = reads_more left_old left_now left_new r r' taken read done line reads h in
       let all = lines_now left_old left_new r' (taken ++ read) (done ++ line ∷ []) reads' in

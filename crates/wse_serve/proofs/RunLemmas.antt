@@ -5,7 +5,7 @@ use Rattle.std.proofs.Math.Seq.{take-append-add}
 use Rattle.wse_disk.specs.Standing.{Standing}
 use Rattle.wse_io.specs.Stream.{Piece, bytes_of, AllAt, IsPrefix}
 use Rattle.wse_io.proofs.StreamLemmas.{prefix-nil, prefix_of, prefix_behind, bytes_of-nil, bytes_of-append, within-nil, within-append, within_at, within_wider}
-use Rattle.wse_serve.specs.Machine.{Machine, transcript, state_after}
+use Rattle.wse_serve.specs.Machine.{Machine, transcript, state_after, AllKeep}
 use Rattle.wse_serve.specs.Scene.{DiskAt}
 use Rattle.wse_serve.specs.Run.{IsTornByNext, HoldsFront, Ran}
 use Rattle.wse_serve.proofs.Transcript.{transcript-append, state_after-nil, state_after-one, state_after-append}
@@ -13,6 +13,12 @@ use Rattle.wse_serve.proofs.Transcript.{transcript-append, state_after-nil, stat
 drop_behind : (xs ys : List (List ℕ)) (k : ℕ) → drop (length xs + k) (xs ++ ys) ≡ drop k ys
 drop_behind [] ys k = ap (λ n. drop n ys) (omega arith)
 drop_behind (x ∷ xs) ys k = ap (λ i. drop i (x ∷ xs ++ ys)) {x = length (x ∷ xs) + k} {y = suc (length xs + k)} (omega arith) ∙ drop_behind xs ys k
+
+-- where lines leave all as it is, those in front do, and those behind
+keep_parts : {S : Type 0} (m : Machine S) (s : S) (xs ys : List (List ℕ)) → AllKeep m s (xs ++ ys) → AllKeep m s xs × AllKeep m (state_after m s xs) ys
+unfolding state_after
+keep_parts m s [] ys k = (tt, k)
+keep_parts m s (x ∷ xs) ys k = let rest = keep_parts m (m.after s x) xs ys k.1 in ((k.0, rest.0), rest.1)
 
 module _ {S : Type 0} (m : Machine S) where
   torn_wider : (s : S) (xs ys : List (List ℕ)) (disk : Option Standing) → IsTornByNext m s xs disk → IsTornByNext m s (xs ++ ys) disk
@@ -93,6 +99,7 @@ module _ {S : Type 0} (m : Machine S) where
     later = omega arith;
     output = subst (λ out. IsPrefix out (transcript m n s [])) (sym bytes_of-nil) (prefix-nil _);
     times = within-nil _ _;
+    kept = λ k. refl;
     holds = subst (λ out. HoldsFront m failed n s [] out disk.told) (sym bytes_of-nil) (holds_none m failed n s [] disk.told same);
   }
 
@@ -108,6 +115,7 @@ module _ {S : Type 0} (m : Machine S) where
         output = subst (λ out. IsPrefix out (transcript m n s (xs ++ ys))) (sym joined)
             (subst (λ t. IsPrefix (transcript m n s xs ++ bytes_of qs) t) (sym (transcript-append m n s xs ys)) (prefix_behind (transcript m n s xs) _ _ b.output));
         times = within-append _ _ ps qs (within_wider _ _ _ _ ps (omega arith) b.later a.times) (within_wider _ _ _ _ qs a.later (omega arith) b.times);
+        kept = λ k. let parts = keep_parts m s xs ys k in b.kept parts.1 ∙ a.kept parts.0;
         holds = subst (λ out. HoldsFront m failed n s (xs ++ ys) out now.told) (sym joined) (holds_behind m failed n s xs ys (bytes_of qs) now.told b.holds);
       }
 
@@ -117,6 +125,7 @@ module _ {S : Type 0} (m : Machine S) where
     later = a.later;
     output = subst (λ t. IsPrefix (bytes_of ps) t) (sym (transcript-append m n s xs ys)) (prefix_of (bytes_of ps) _ _ a.output);
     times = a.times;
+    kept = λ k. a.kept (keep_parts m s xs ys k).0;
     holds = holds_wider m failed n s xs ys _ now.told a.holds;
   }
 
@@ -125,37 +134,40 @@ module _ {S : Type 0} (m : Machine S) where
     later = a.later;
     output = a.output;
     times = a.times;
+    kept = a.kept;
     holds = holds_weaker m failed other n s ls _ now.told f a.holds;
   }
 
   -- lines of which nothing was emitted
-  pub ran_silent : (failed : Bool) (before now : DiskAt) (n : ℕ) (s : S) (ls : List (List ℕ)) → before.moment ≤ now.moment → (HoldsFront m failed n s ls [] now.told) → Ran m failed before now n s ls []
-  ran_silent failed before now n s ls later holds = record {
+  pub ran_silent : (failed : Bool) (before now : DiskAt) (n : ℕ) (s : S) (ls : List (List ℕ)) → before.moment ≤ now.moment → (AllKeep m s ls → now.told ≡ before.told) → (HoldsFront m failed n s ls [] now.told) → Ran m failed before now n s ls []
+  ran_silent failed before now n s ls later kept holds = record {
     later = later;
     output = subst (λ out. IsPrefix out (transcript m n s ls)) (sym bytes_of-nil) (prefix-nil _);
     times = within-nil _ _;
+    kept = kept;
     holds = subst (λ out. HoldsFront m failed n s ls out now.told) (sym bytes_of-nil) holds;
   }
 
   -- a line that wasn't done
-  pub ran_undone : (failed : Bool) (before now : DiskAt) (n : ℕ) (s : S) (line : List ℕ) → before.moment ≤ now.moment → (m.on_disk s now.told) → Ran m failed before now n s (line ∷ []) []
-  ran_undone failed before now n s line later same = ran_silent failed before now n s (line ∷ []) later (holds_none m failed n s (line ∷ []) now.told same)
+  pub ran_undone : (failed : Bool) (before now : DiskAt) (n : ℕ) (s : S) (line : List ℕ) → before.moment ≤ now.moment → (m.keeps s line → now.told ≡ before.told) → (m.on_disk s now.told) → Ran m failed before now n s (line ∷ []) []
+  ran_undone failed before now n s line later kept same = ran_silent failed before now n s (line ∷ []) later (λ k. kept k.0) (holds_none m failed n s (line ∷ []) now.told same)
 
   -- a line in which the disk failed
-  pub ran_torn : (before now : DiskAt) (n : ℕ) (s : S) (line : List ℕ) → before.moment ≤ now.moment → (m.torn_by s line now.told) → Ran m true before now n s (line ∷ []) []
-  ran_torn before now n s line later torn = ran_silent true before now n s (line ∷ []) later (holds_torn m true n s (line ∷ []) now.told refl torn)
+  pub ran_torn : (before now : DiskAt) (n : ℕ) (s : S) (line : List ℕ) → before.moment ≤ now.moment → (m.keeps s line → now.told ≡ before.told) → (m.torn_by s line now.told) → Ran m true before now n s (line ∷ []) []
+  ran_torn before now n s line later kept torn = ran_silent true before now n s (line ∷ []) later (λ k. kept k.0) (holds_torn m true n s (line ∷ []) now.told refl torn)
 
   -- one line, of whose answer a front was emitted
-  pub ran_emitted : (failed : Bool) (before now : DiskAt) (n : ℕ) (s : S) (line : List ℕ) (ps : List Piece) → before.moment ≤ now.moment → AllAt now.moment ps
+  pub ran_emitted : (failed : Bool) (before now : DiskAt) (n : ℕ) (s : S) (line : List ℕ) (ps : List Piece) → before.moment ≤ now.moment → (m.keeps s line → now.told ≡ before.told) → AllAt now.moment ps
       → IsPrefix (bytes_of ps) (transcript m n s (line ∷ [])) → (m.on_disk (m.after s line) now.told) → Ran m failed before now n s (line ∷ []) ps
-  ran_emitted failed before now n s line ps later at front same = record {
+  ran_emitted failed before now n s line ps later kept at front same = record {
     later = later;
     output = front;
+    kept = λ k. kept k.0;
     times = within_at _ _ now.moment ps later (omega arith) at;
     holds = holds_all m failed n s (line ∷ []) _ now.told front (subst (λ u. m.on_disk u now.told) (sym (state_after-one m s line)) same);
   }
 
   -- a line that was done, and of which nothing was emitted
-  pub ran_unsaid : (failed : Bool) (before now : DiskAt) (n : ℕ) (s : S) (line : List ℕ) → before.moment ≤ now.moment → (m.on_disk (m.after s line) now.told) → Ran m failed before now n s (line ∷ []) []
-  ran_unsaid failed before now n s line later same =
-      ran_silent failed before now n s (line ∷ []) later (holds_all m failed n s (line ∷ []) [] now.told (prefix-nil _) (subst (λ u. m.on_disk u now.told) (sym (state_after-one m s line)) same))
+  pub ran_unsaid : (failed : Bool) (before now : DiskAt) (n : ℕ) (s : S) (line : List ℕ) → before.moment ≤ now.moment → (m.keeps s line → now.told ≡ before.told) → (m.on_disk (m.after s line) now.told) → Ran m failed before now n s (line ∷ []) []
+  ran_unsaid failed before now n s line later kept same =
+      ran_silent failed before now n s (line ∷ []) later (λ k. kept k.0) (holds_all m failed n s (line ∷ []) [] now.told (prefix-nil _) (subst (λ u. m.on_disk u now.told) (sym (state_after-one m s line)) same))

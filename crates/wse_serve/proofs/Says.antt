@@ -19,48 +19,48 @@ use Rattle.wse_serve.specs.declared.serving.ServeEnd.TheVariants.{Done, Read, Wr
 
 -- how many bytes were taken at an end, and whether the input was over; at three of the ends all that was taken is answered
 abbrev pub Whole : ServeEnd → ℕ → ℕ → Bool → Type 0 → Type 0 → Type 0
-Whole Done most taken over answered rests = (taken ≤ most) × (over ≡ true) × answered × rests
-Whole Read most taken over answered rests = (taken ≤ most) × (over ≡ false) × answered
-Whole (InputLimit n) most taken over answered rests = (taken ≡ most + 1) × (over ≡ false) × answered
-Whole Write most taken over answered rests = taken ≤ most + 1
-Whole Disk most taken over answered rests = taken ≤ most + 1
-Whole Memory most taken over answered rests = taken ≤ most + 1
-Whole (TooBig hit) most taken over answered rests = taken ≤ most
+Whole Done max_input taken over answered rests = (taken ≤ max_input) × (over ≡ true) × answered × rests
+Whole Read max_input taken over answered rests = (taken ≤ max_input) × (over ≡ false) × answered
+Whole (InputLimit n) max_input taken over answered rests = (taken ≡ max_input + 1) × (over ≡ false) × answered
+Whole Write max_input taken over answered rests = taken ≤ max_input + 1
+Whole Disk max_input taken over answered rests = taken ≤ max_input + 1
+Whole Memory max_input taken over answered rests = taken ≤ max_input + 1
+Whole (TooBig hit) max_input taken over answered rests = taken ≤ max_input
 
 -- the same by the ending
-pub record Says (ending : Ending) (most taken : ℕ) (over : Bool) (answered rests : Type 0) : Type 0 where
-  pub done : ending.done ≡ true → (taken ≤ most) × (over ≡ true) × answered × rests
-  pub read : ending.read ≡ true → (taken ≤ most) × (over ≡ false) × answered
-  pub passed : ending.passed ≡ true → (taken ≡ most + 1) × (over ≡ false) × answered
-  pub only_passed : taken ≡ most + 1 → (ending.passed ≡ true) ⊎ (ending.write ≡ true) ⊎ (ending.disk ≡ true) ⊎ (ending.memory ≡ true)
-  pub never_more : taken ≤ most + 1
+pub record Says (ending : Ending) (max_input taken : ℕ) (over : Bool) (answered rests : Type 0) : Type 0 where
+  pub done : ending.done ≡ true → (taken ≤ max_input) × (over ≡ true) × answered × rests
+  pub read : ending.read ≡ true → (taken ≤ max_input) × (over ≡ false) × answered
+  pub passed : ending.passed ≡ true → (taken ≡ max_input + 1) × (over ≡ false) × answered
+  pub only_passed : taken ≡ max_input + 1 → (ending.passed ≡ true) ⊎ (ending.write ≡ true) ⊎ (ending.disk ≡ true) ⊎ (ending.memory ≡ true)
+  pub never_more : taken ≤ max_input + 1
 
-pub says : (end : ServeEnd) (most taken : ℕ) (over : Bool) (answered rests : Type 0) → Whole end most taken over answered rests → Says (ending_of end) most taken over answered rests
-says Done most taken over answered rests h = record { done = λ s. h; read = λ s. cc; passed = λ s. cc; only_passed = λ t. absurd (let le = h.0 in omega arith); never_more = let le = h.0 in omega arith }
-says Read most taken over answered rests h = record { done = λ s. cc; read = λ s. h; passed = λ s. cc; only_passed = λ t. absurd (let le = h.0 in omega arith); never_more = let le = h.0 in omega arith }
-says (InputLimit n) most taken over answered rests h = record { done = λ s. cc; read = λ s. cc; passed = λ s. h; only_passed = λ t. inl refl; never_more = let le = h.0 in omega arith }
-says Write most taken over answered rests h = record { done = λ s. cc; read = λ s. cc; passed = λ s. cc; only_passed = λ t. inr (inl refl); never_more = h }
-says Disk most taken over answered rests h = record { done = λ s. cc; read = λ s. cc; passed = λ s. cc; only_passed = λ t. inr (inr (inl refl)); never_more = h }
-says Memory most taken over answered rests h = record { done = λ s. cc; read = λ s. cc; passed = λ s. cc; only_passed = λ t. inr (inr (inr refl)); never_more = h }
-says (TooBig hit) most taken over answered rests h = record { done = λ s. cc; read = λ s. cc; passed = λ s. cc; only_passed = λ t. absurd (omega (arith, h, t)); never_more = omega (arith, h) }
+pub says : (end : ServeEnd) (max_input taken : ℕ) (over : Bool) (answered rests : Type 0) → Whole end max_input taken over answered rests → Says (ending_of end) max_input taken over answered rests
+says Done max_input taken over answered rests h = record { done = λ s. h; read = λ s. cc; passed = λ s. cc; only_passed = λ t. absurd (let le = h.0 in omega arith); never_more = let le = h.0 in omega arith }
+says Read max_input taken over answered rests h = record { done = λ s. cc; read = λ s. h; passed = λ s. cc; only_passed = λ t. absurd (let le = h.0 in omega arith); never_more = let le = h.0 in omega arith }
+says (InputLimit n) max_input taken over answered rests h = record { done = λ s. cc; read = λ s. cc; passed = λ s. h; only_passed = λ t. inl refl; never_more = let le = h.0 in omega arith }
+says Write max_input taken over answered rests h = record { done = λ s. cc; read = λ s. cc; passed = λ s. cc; only_passed = λ t. inr (inl refl); never_more = h }
+says Disk max_input taken over answered rests h = record { done = λ s. cc; read = λ s. cc; passed = λ s. cc; only_passed = λ t. inr (inr (inl refl)); never_more = h }
+says Memory max_input taken over answered rests h = record { done = λ s. cc; read = λ s. cc; passed = λ s. cc; only_passed = λ t. inr (inr (inr refl)); never_more = h }
+says (TooBig hit) max_input taken over answered rests h = record { done = λ s. cc; read = λ s. cc; passed = λ s. cc; only_passed = λ t. absurd (omega (arith, h, t)); never_more = omega (arith, h) }
 
 -- what a fault of the reader says of the bytes
-pub whole_fault : (fault : LineFault) (most taken : ℕ) (over : Bool) (bytes : List ℕ) (new : Reader) (answered rests : Type 0) → Given (Err fault) bytes new → IsAfter new.ahead most new.taken → new.taken ≡ taken → taken ≤ most + 1
-    → (over ≡ true → new.ahead ≡ Failed line_faults.Memory) → (lines bytes over ≡ [] → answered) → Whole (end_of_lines fault) most taken over answered rests
-whole_fault line_faults.Memory most taken over bytes new answered rests g after is within settled f = within
-whole_fault line_faults.Read most taken true bytes new answered rests g after is within settled f = let e = settled refl in let x = g.0 in cc
-whole_fault line_faults.Read most taken false bytes new answered rests g after is within settled f =
-    let le : new.taken ≤ most = subst (λ a. IsAfter a most new.taken) g.0 after in
-    (subst (λ t. t ≤ most) is le, refl, f g.2)
-whole_fault (line_faults.InputLimit n) most taken true bytes new answered rests g after is within settled f = let e = settled refl in let x = g.0 in cc
-whole_fault (line_faults.InputLimit n) most taken false bytes new answered rests g after is within settled f =
-    let past : (new.taken ≡ most + 1) × (n ≡ new.taken) = subst (λ a. IsAfter a most new.taken) g.0 after in
+pub whole_fault : (fault : LineFault) (max_input taken : ℕ) (over : Bool) (bytes : List ℕ) (new : Reader) (answered rests : Type 0) → Given (Err fault) bytes new → IsAfter new.ahead max_input new.taken → new.taken ≡ taken → taken ≤ max_input + 1
+    → (over ≡ true → new.ahead ≡ Failed line_faults.Memory) → (lines bytes over ≡ [] → answered) → Whole (end_of_lines fault) max_input taken over answered rests
+whole_fault line_faults.Memory max_input taken over bytes new answered rests g after is within settled f = within
+whole_fault line_faults.Read max_input taken true bytes new answered rests g after is within settled f = let e = settled refl in let x = g.0 in cc
+whole_fault line_faults.Read max_input taken false bytes new answered rests g after is within settled f =
+    let le : new.taken ≤ max_input = subst (λ a. IsAfter a max_input new.taken) g.0 after in
+    (subst (λ t. t ≤ max_input) is le, refl, f g.2)
+whole_fault (line_faults.InputLimit n) max_input taken true bytes new answered rests g after is within settled f = let e = settled refl in let x = g.0 in cc
+whole_fault (line_faults.InputLimit n) max_input taken false bytes new answered rests g after is within settled f =
+    let past : (new.taken ≡ max_input + 1) × (n ≡ new.taken) = subst (λ a. IsAfter a max_input new.taken) g.0 after in
     (sym is ∙ past.0, refl, f g.2)
 
-pub whole_one : {D : Type 0} (fault : ServeFault D) (most taken : ℕ) (over : Bool) (answered rests : Type 0) → taken ≤ most + 1 → Whole (end_of_one fault) most taken over answered rests
-whole_one (faults.Write disk) most taken over answered rests h = h
-whole_one (faults.Disk disk) most taken over answered rests h = h
-whole_one (faults.Memory disk) most taken over answered rests h = h
+pub whole_one : {D : Type 0} (fault : ServeFault D) (max_input taken : ℕ) (over : Bool) (answered rests : Type 0) → taken ≤ max_input + 1 → Whole (end_of_one fault) max_input taken over answered rests
+whole_one (faults.Write disk) max_input taken over answered rests h = h
+whole_one (faults.Disk disk) max_input taken over answered rests h = h
+whole_one (faults.Memory disk) max_input taken over answered rests h = h
 
 -- no line was read at these ends
 abbrev pub IsUnread : ServeEnd → Type 0
@@ -72,23 +72,23 @@ IsUnread Memory = ⊤
 IsUnread (InputLimit n) = ⊥
 IsUnread (TooBig hit) = ⊤
 
-pub whole_none : (end : ServeEnd) (most : ℕ) (answered rests : Type 0) → IsUnread end → Whole end most 0 false answered rests
-whole_none Disk most answered rests is = omega arith
-whole_none Memory most answered rests is = omega arith
-whole_none (TooBig hit) most answered rests is = omega arith
-whole_none Done most answered rests is = absurd is
-whole_none Read most answered rests is = absurd is
-whole_none Write most answered rests is = absurd is
-whole_none (InputLimit n) most answered rests is = absurd is
+pub whole_none : (end : ServeEnd) (max_input : ℕ) (answered rests : Type 0) → IsUnread end → Whole end max_input 0 false answered rests
+whole_none Disk max_input answered rests is = omega arith
+whole_none Memory max_input answered rests is = omega arith
+whole_none (TooBig hit) max_input answered rests is = omega arith
+whole_none Done max_input answered rests is = absurd is
+whole_none Read max_input answered rests is = absurd is
+whole_none Write max_input answered rests is = absurd is
+whole_none (InputLimit n) max_input answered rests is = absurd is
 
 -- a run over what was taken
-unfoldable pub runs_by : {S : Type 0} (m : Machine S) (s : S) (most : ℕ) (before now : Scene) (end : ServeEnd) (taken : List ℕ) (over : Bool) (added : List Piece)
+unfoldable pub runs_by : {S : Type 0} (m : Machine S) (s : S) (max_input : ℕ) (before now : Scene) (end : ServeEnd) (taken : List ℕ) (over : Bool) (added : List Piece)
     → Takes before.left now.left taken → (over ≡ true → IfSome now.left (λ rest. rest ≡ [])) → Adds before.pieces now.pieces added
-    → Ran m (ending_of end).disk before.disk now.disk 1 s (lines_of most taken over) added
-    → Whole end most (length taken) over (bytes_of added ≡ transcript m 1 s (lines_of most taken over)) (m.on_disk (state_after m s (lines_of most taken over)) now.disk.told)
-    → Runs m s most before now (ending_of end)
-runs_by m s most before now end taken over added takes is_over adds ran whole =
-    let by = says end most (length taken) over (bytes_of added ≡ transcript m 1 s (lines_of most taken over)) (m.on_disk (state_after m s (lines_of most taken over)) now.disk.told) whole in
+    → Ran m (ending_of end).disk before.disk now.disk 1 s (lines_of max_input taken over) added
+    → Whole end max_input (length taken) over (bytes_of added ≡ transcript m 1 s (lines_of max_input taken over)) (m.on_disk (state_after m s (lines_of max_input taken over)) now.disk.told)
+    → Runs m s max_input before now (ending_of end)
+runs_by m s max_input before now end taken over added takes is_over adds ran whole =
+    let by = says end max_input (length taken) over (bytes_of added ≡ transcript m 1 s (lines_of max_input taken over)) (m.on_disk (state_after m s (lines_of max_input taken over)) now.disk.told) whole in
     record {
       taken = taken;
       over = over;
@@ -104,5 +104,6 @@ runs_by m s most before now end taken over added takes is_over adds ran whole =
       passed = by.passed;
       only_passed = by.only_passed;
       never_more = by.never_more;
+      kept = ran.kept;
       holds = ran.holds;
     }

@@ -19,10 +19,11 @@ use Rattle.wse_serve.specs.declared.session.Stopped.TheVariants.{Disk, Memory}
 use Rattle.wse_serve.proofs.RunLemmas.{ran_undone, ran_torn}
 
 pub ran_stopped : {D : Type 0} (told : D → Option Standing) (moment : D → ℕ) (root : Parts) (limits : Limits) (before : DiskAt) (n : ℕ) (s : State) (line : List ℕ) (stopped : Stopped D) → before.moment ≤ moment (fault_disk (fault_of stopped))
+    → ((after root limits s line).files ≡ s.files → told (fault_disk (fault_of stopped)) ≡ before.told)
     → (LeavesBetween told s (after root limits s line) stopped)
     → Ran (edits root limits) (is_disk_fault {D = D} (Err (fault_of stopped))) before (disk_at moment told (fault_disk (fault_of stopped))) n s (line ∷ []) []
-ran_stopped told moment root limits before n s line (Disk disk) later left = ran_torn (edits root limits) before (disk_at moment told disk) n s line later left
-ran_stopped told moment root limits before n s line (Memory disk) later left = ran_undone (edits root limits) false before (disk_at moment told disk) n s line later left
+ran_stopped told moment root limits before n s line (Disk disk) later kept left = ran_torn (edits root limits) before (disk_at moment told disk) n s line later kept left
+ran_stopped told moment root limits before n s line (Memory disk) later kept left = ran_undone (edits root limits) false before (disk_at moment told disk) n s line later kept left
 
 -- what changes that stopped leave, where they lead to the next state
 pub leaves_between : {D : Type 0} (told : D → Option Standing) (s next : State) (cs : List Change) → cs ≡ changes_between s.files next.files → (stopped : Stopped D) → LeavesWithin told s cs stopped → LeavesBetween told s next stopped

@@ -18,6 +18,7 @@ use Rattle.wse_path.specs.declared.limits.Hit.{Hit}
 use Rattle.wse_path.specs.declared.limits.Which.{Which}
 use Rattle.wse_path.specs.declared.limits.Which.TheVariants.{Files, FileBytes, TreeBytes, Serial, Known}
 use Rattle.wse_path.proofs.LeadLemmas.{lead_set}
+use Rattle.wse_path.proofs.GatheredLemmas.{no_changes}
 use Rattle.wse_apply.specs.Limit.{limit_hit, hit_by, hit_above, file_count, first_above, are_within}
 use Rattle.wse_apply.specs.Setting.{SettingState}
 use Rattle.wse_apply.specs.Performed.{performed}
@@ -199,6 +200,10 @@ module _ (limits : Limits) (s : State) (by : ℕ) (edit : Edit) (within : are_wi
         ap (λ (d : Performed). d.changes) is ∙ between
         ∙ ap (λ (d : Performed). changes_between s.files (state_by s d None).files) (sym is)
         ∙ ap (λ (t : State). changes_between s.files t.files) (after_made h)
+
+    -- where the files stay as they are nothing is made
+    pub nothing_made : None ≡ hit_by_edit limits s by edit → (after_edit limits s by edit).files ≡ s.files → found.changes ≡ []
+    nothing_made h same = between_made h ∙ ap (λ (es : Entries). changes_between s.files es) same ∙ no_changes s.files
 
   pub sound_next : IsSound limits (after_edit limits s by edit)
   unfolding after_edit

@@ -1,5 +1,5 @@
 -- The machine of the lines of edits. No locks are held, and nothing is remembered of an edit but what it changed.
-use Rattle.std.specs.Prelude.{◌==◌, ℕ, ◌+◌, List, [], ◌∷◌, length, map, if◌then◌else◌, Option, Some, None, Result, Ok, Err}
+use Rattle.std.specs.Prelude.{◌≡◌, ◌==◌, ℕ, ◌+◌, List, [], ◌∷◌, length, map, if◌then◌else◌, Option, Some, None, Result, Ok, Err}
 use Rattle.std.specs.Option.{option_or}
 use Rattle.std.specs.FinMap.{put}
 use Rattle.url.specs.Parts.{Parts}
@@ -132,6 +132,7 @@ abbrev pub edits : Parts → Limits → Machine State
 edits root limits = record {
   answer = λ n s line. reply_text n (reply root limits s line);
   after = after root limits;
+  keeps = λ s line. (after root limits s line).files ≡ s.files;
   on_disk = StandsFor;
   torn_by = λ s line. IsTorn s (after root limits s line);
 }

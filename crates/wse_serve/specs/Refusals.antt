@@ -1,35 +1,10 @@
 -- Why a line is refused, as JSON with the members in byte order of their names. This project's own rule.
-use Rattle.std.specs.Prelude.{ℕ, List, ◌++◌, codes, decimal}
+use Rattle.std.specs.Prelude.{ℕ, List, codes}
 use Rattle.serde_json.specs.Data.{Data, no_members, member, object, number, string, unsigned}
-use Rattle.wse_path.specs.declared.path.PathRefused.{PathRefused}
-use Rattle.wse_path.specs.declared.path.PathRefused.TheVariants as paths
 use Rattle.wse_uri.specs.declared.refused.UriRefused.{UriRefused}
-use Rattle.wse_uri.specs.declared.refused.UriRefused.TheVariants as uris
+use Rattle.wse_uri.specs.Words.{uri_text}
 use Rattle.wse_json.specs.declared.shape.Shape.{Shape}
 use Rattle.wse_json.specs.declared.shape.Shape.TheVariants as shapes
-
-abbrev pub segment_text : ℕ → List ℕ → List ℕ
-segment_text index what = codes "segment " ++ (decimal index ++ what)
-
--- Why a URI's segments are no path. None is refused for having no segment: it is the root then.
-abbrev pub path_text : PathRefused → List ℕ
-path_text paths.Empty = codes "no segment"
-path_text (paths.TooDeep depth) = decimal depth ++ codes " segments"
-path_text (paths.Segment index) = segment_text index (codes " is not a name")
-path_text (paths.TooLong bytes) = decimal bytes ++ codes " bytes"
-
--- Why a URI names no path below the root. Want of memory is no cause, and never told.
-abbrev pub uri_text : UriRefused → List ℕ
-uri_text uris.NotUrl = codes "not a URL"
-uri_text uris.NotFile = codes "not a file URI"
-uri_text uris.HasHost = codes "has a host"
-uri_text uris.HasQuery = codes "has a query"
-uri_text uris.HasFragment = codes "has a fragment"
-uri_text uris.OutsideRoot = codes "outside the root"
-uri_text uris.IsRoot = codes "is the root"
-uri_text (uris.Escape segment) = segment_text segment (codes " is not UTF-8")
-uri_text (uris.Path why) = path_text why
-uri_text uris.Memory = codes "out of memory"
 
 -- The members that each refusal has: the line's number, and the cause.
 abbrev pub refused_data : ℕ → List ℕ → Data

@@ -3,7 +3,7 @@ use Rattle.std.specs.Prelude.{◌≡◌, ◌⊎◌, ℕ, ◌+◌, ◌≤◌, Boo
 use Rattle.wse_disk.specs.Standing.{Standing}
 use Rattle.wse_io.specs.Stream.{Piece, Adds, Takes, IsPrefix, bytes_of, Within}
 use Rattle.wse_io.specs.Lines.{lines}
-use Rattle.wse_serve.specs.Machine.{Machine, transcript, state_after}
+use Rattle.wse_serve.specs.Machine.{Machine, transcript, state_after, AllKeep}
 use Rattle.wse_serve.specs.Scene.{DiskAt, Scene}
 use Rattle.wse_serve.specs.Ending.{Ending}
 
@@ -27,14 +27,16 @@ pub record Ran {S : Type 0} (m : Machine S) (failed : Bool) (before now : DiskAt
   -- What is emitted is a front of the answers.
   pub output : IsPrefix (bytes_of added) (transcript m n s ls)
   pub times : Within before.moment now.moment added
+  -- No call is made that changes what the disk tells, where no line changes what is on it.
+  pub kept : AllKeep m s ls → now.told ≡ before.told
   pub holds : HoldsFront m failed n s ls (bytes_of added) now.told
 
--- The lines of the first `most` bytes of those that were taken.
-abbrev pub lines_of : (most : ℕ) (taken : List ℕ) (over : Bool) → List (List ℕ)
-lines_of most taken over = lines (take most taken) over
+-- The lines of the first `max_input` bytes of those that were taken.
+abbrev pub lines_of : (max_input : ℕ) (taken : List ℕ) (over : Bool) → List (List ℕ)
+lines_of max_input taken over = lines (take max_input taken) over
 
 -- A run over a stream, of which at most so many bytes are read as lines, from a state before the first line.
-pub record Runs {S : Type 0} (m : Machine S) (s : S) (most : ℕ) (before now : Scene) (ending : Ending) : Type 0 where
+pub record Runs {S : Type 0} (m : Machine S) (s : S) (max_input : ℕ) (before now : Scene) (ending : Ending) : Type 0 where
   -- The bytes that were taken, whether the input is over, and the pieces that were emitted.
   pub taken : List ℕ
   pub over : Bool
@@ -47,21 +49,23 @@ pub record Runs {S : Type 0} (m : Machine S) (s : S) (most : ℕ) (before now : 
   pub later : before.disk.moment ≤ now.disk.moment
   pub times : Within before.disk.moment now.disk.moment added
   -- They are a front of the answers.
-  pub output : IsPrefix (bytes_of added) (transcript m 1 s (lines_of most taken over))
+  pub output : IsPrefix (bytes_of added) (transcript m 1 s (lines_of max_input taken over))
   -- Where all was done the input was read to its end, all is answered, and the disk has what the last state says.
-  pub done : ending.done ≡ true → (length taken ≤ most) × (over ≡ true)
-      × (bytes_of added ≡ transcript m 1 s (lines_of most taken over))
-      × m.on_disk (state_after m s (lines_of most taken over)) now.disk.told
+  pub done : ending.done ≡ true → (length taken ≤ max_input) × (over ≡ true)
+      × (bytes_of added ≡ transcript m 1 s (lines_of max_input taken over))
+      × m.on_disk (state_after m s (lines_of max_input taken over)) now.disk.told
   -- Where the source failed the whole lines before the fault are answered.
-  pub read : ending.read ≡ true → (length taken ≤ most) × (over ≡ false)
-      × (bytes_of added ≡ transcript m 1 s (lines_of most taken over))
+  pub read : ending.read ≡ true → (length taken ≤ max_input) × (over ≡ false)
+      × (bytes_of added ≡ transcript m 1 s (lines_of max_input taken over))
   -- Where one byte past the most was taken the whole lines before it are answered.
-  pub passed : ending.passed ≡ true → (length taken ≡ most + 1) × (over ≡ false)
-      × (bytes_of added ≡ transcript m 1 s (lines_of most taken over))
+  pub passed : ending.passed ≡ true → (length taken ≡ max_input + 1) × (over ≡ false)
+      × (bytes_of added ≡ transcript m 1 s (lines_of max_input taken over))
   -- Where it was taken, that is how the run ended, if no line ended it.
-  pub only_passed : length taken ≡ most + 1
+  pub only_passed : length taken ≡ max_input + 1
       → (ending.passed ≡ true) ⊎ (ending.write ≡ true) ⊎ (ending.disk ≡ true) ⊎ (ending.memory ≡ true)
-  pub never_more : length taken ≤ most + 1
+  pub never_more : length taken ≤ max_input + 1
+  -- No call is made that changes what the disk tells, where no line changes what is on it.
+  pub kept : AllKeep m s (lines_of max_input taken over) → now.disk.told ≡ before.disk.told
   -- However the run ended, the disk has what the state after a front of the lines says, to which all that is out are
   -- answers, or what it may have that failed in the line behind them.
-  pub holds : HoldsFront m ending.disk 1 s (lines_of most taken over) (bytes_of added) now.disk.told
+  pub holds : HoldsFront m ending.disk 1 s (lines_of max_input taken over) (bytes_of added) now.disk.told

@@ -80,6 +80,10 @@ abbrev pub LeavesBetween : {D : Type 0} → (D → Option Standing) → (s next 
 LeavesBetween told s next (Disk disk) = IsTorn s next (told disk)
 LeavesBetween told s next (Memory disk) = StandsFor s (told disk)
 
+-- A step to a state with the same files makes no call of the disk: it hands it back as it was.
+abbrev pub LeavesUntouched : {D A : Type 0} → (s next : State) → D → Result (Session D × A) (Stopped D) → Type 0
+LeavesUntouched s next old result = next.files ≡ s.files → disk_after result ≡ old
+
 -- The step ended with a fault of the disk.
 abbrev pub is_disk_stop : {D A : Type 0} → Result A (Stopped D) → Bool
 is_disk_stop (Ok x) = false

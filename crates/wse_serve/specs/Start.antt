@@ -31,10 +31,10 @@ pub record IsStart (told : Option Standing) (s : State) : Type 0 where
   pub none_made : s.elements ≡ 0
 
 -- A run of edits from the tree that a disk holds.
-pub record RunsEdits (root : Parts) (limits : Limits) (most : ℕ) (before now : Scene) (ending : Ending) : Type 0 where
+pub record RunsEdits (root : Parts) (limits : Limits) (max_input : ℕ) (before now : Scene) (ending : Ending) : Type 0 where
   pub first : State
   pub start : IsStart before.disk.told first
-  pub runs : Runs (edits root limits) first most before now ending
+  pub runs : Runs (edits root limits) first max_input before now ending
   -- A tree that passes a limit ends the run, unless the disk fails or there is no memory, and no line is read.
   pub too_big : ending.too_big ≡ true → IsSome (start_hit limits first.files)
   pub only_too_big : IsSome (start_hit limits first.files)

@@ -4,7 +4,7 @@ ghost use Rattle.wse_path.specs.Limits.{standard};
 ghost use Rattle.wse_apply.specs.Limit.{are_within};
 ghost use Rattle.std.specs.Prelude.{true};
 ghost use Rattle.wse_serve.specs.Edits.{reply_to, after_command, reply, after, StandsFor};
-ghost use Rattle.wse_serve.specs.Session.{state_of, IsSound, disk_after, LeavesBetween, StepCause, StepLasts};
+ghost use Rattle.wse_serve.specs.Session.{state_of, IsSound, disk_after, LeavesBetween, LeavesUntouched, StepCause, StepLasts};
 
 use crate::reply::Reply;
 use crate::session::{Session, Stopped};
@@ -31,6 +31,8 @@ impl<D: Disk> Session<D> {
         ensures agrees { IfOk result (λ x. StandsFor (state_of x.0) (D.told x.0.disk)) }
         ensures left { IfErr result (LeavesBetween D.told (state_of self)
             (after_command limits.now (state_of self) (Ok command.now))) }
+        ensures untouched { LeavesUntouched (state_of self)
+            (after_command limits.now (state_of self) (Ok command.now)) self.disk result }
         ensures lasts { StepLasts D.told self.disk result }
         ensures later { D.moment_of self.disk ≤ D.moment_of (disk_after result) }
         ensures cause { StepCause D.faults self.disk result }
@@ -68,6 +70,8 @@ impl<D: Disk> Session<D> {
         ensures agrees { IfOk result (λ x. StandsFor (state_of x.0) (D.told x.0.disk)) }
         ensures left { IfErr result (LeavesBetween D.told (state_of self)
             (after setting.now.root setting.now.bounds.limits (state_of self) line.now)) }
+        ensures untouched { LeavesUntouched (state_of self)
+            (after setting.now.root setting.now.bounds.limits (state_of self) line.now) self.disk result }
         ensures lasts { StepLasts D.told self.disk result }
         ensures later { D.moment_of self.disk ≤ D.moment_of (disk_after result) }
         ensures cause { StepCause D.faults self.disk result }

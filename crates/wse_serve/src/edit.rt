@@ -7,7 +7,7 @@ ghost use Rattle.wse_path.specs.Limits.{standard};
 ghost use Rattle.wse_path.specs.Versions.{version_of};
 ghost use Rattle.wse_apply.specs.Limit.{are_within};
 ghost use Rattle.wse_serve.specs.Edits.{raised, one_if_any, element_of, answer_by, state_by, answer_to, after_edit, StandsFor};
-ghost use Rattle.wse_serve.specs.Session.{state_of, pairs_of, IsSound, LeavesBetween, LeavesWithin, disk_after, StepCause, StepLasts};
+ghost use Rattle.wse_serve.specs.Session.{state_of, pairs_of, IsSound, LeavesBetween, LeavesUntouched, LeavesWithin, disk_after, StepCause, StepLasts};
 
 use crate::answer::Answer;
 use crate::session::{Session, Stopped};
@@ -89,7 +89,8 @@ fn limit_answer(alloc: Global, hit: Hit, skipped: Skips) -> Answer
 
 impl<D: Disk> Session<D> {
     /// Performs the edit of that participant, with no locks held, on the disk and then in memory, and says what the
-    /// answer is. One that passes a limit as a whole changes nothing. All memory is taken before the disk is written.
+    /// answer is. One that passes a limit as a whole changes nothing. All memory is taken before the disk is written. No
+    /// call is made of the disk where the files stay as they are.
     pub fn edit(
         self,
         alloc: Global,
@@ -106,6 +107,8 @@ impl<D: Disk> Session<D> {
         ensures agrees { IfOk result (λ x. StandsFor (state_of x.0) (D.told x.0.disk)) }
         ensures left { IfErr result (LeavesBetween D.told (state_of self)
             (after_edit limits.now (state_of self) by edit.now)) }
+        ensures untouched { LeavesUntouched (state_of self)
+            (after_edit limits.now (state_of self) by edit.now) self.disk result }
         ensures lasts { StepLasts D.told self.disk result }
         ensures later { D.moment_of self.disk ≤ D.moment_of (disk_after result) }
         ensures cause { StepCause D.faults self.disk result }
@@ -143,6 +146,7 @@ impl<D: Disk> Session<D> {
         ensures answer { IfOk result (λ x. x.1 ≡ answer_by (state_of self) done None) }
         ensures agrees { IfOk result (λ x. StandsFor (state_of x.0) (D.told x.0.disk)) }
         ensures left { IfErr result (LeavesWithin D.told (state_of self) done.changes) }
+        ensures untouched { done.changes ≡ [] → disk_after result ≡ self.disk }
         ensures lasts { StepLasts D.told self.disk result }
         ensures later { D.moment_of self.disk ≤ D.moment_of (disk_after result) }
         ensures cause { StepCause D.faults self.disk result }

@@ -80,13 +80,18 @@ pub fn listed(alloc: Global, tree: &Tree) -> Result<Vec<u8>, Fail> {
     let mut all = Vec::new(alloc);
     for index in 0..tree.count() {
         if let Some(path) = tree.path_at(index) {
-            all.extend_from_slice(path.text(alloc)?.as_str().as_bytes())?;
-            all.push(b'=')?;
-            all.extend_from_slice(tree.get(path).unwrap_or(b"none"))?;
-            all.push(b'\n')?;
+            push_file(alloc, &mut all, path, tree.get(path).unwrap_or(b"none"))?;
         }
     }
     Ok(all)
+}
+
+fn push_file(alloc: Global, all: &mut Vec<u8>, path: &RelPath, bytes: &[u8]) -> Result<(), Fail> {
+    all.extend_from_slice(path.text(alloc)?.as_str().as_bytes())?;
+    all.push(b'=')?;
+    all.extend_from_slice(bytes)?;
+    all.push(b'\n')?;
+    Ok(())
 }
 
 fn bounds_of(case: &Case) -> Result<Bounds, Fail> {
@@ -134,19 +139,23 @@ pub fn run_case(alloc: Global, case: &Case, input: &str) -> Result<Outcome, Fail
     let disk = disk_of(alloc, case)?;
     let mut source = source_of(alloc, case, input)?;
     let mut out = sink_of(alloc, case)?;
-    let Served { disk, end } = serve_disk(alloc, disk, &setting, &mut source, &mut out);
-    let faults = disk.faults().max(source.faults()).max(out.faults());
+    let served = serve_disk(alloc, disk, &setting, &mut source, &mut out);
+    Ok(outcome_of(served, source.faults(), out))
+}
+
+fn outcome_of(served: Served<MemDisk>, source_faults: u64, out: MemSink) -> Outcome {
+    let Served { disk, end } = served;
+    let faults = disk.faults().max(source_faults).max(out.faults());
     let moment = disk.moment();
     let is_pending = is_pending(disk.calls());
-    let tree = disk.into_tree();
-    Ok(Outcome {
+    Outcome {
         end,
         out,
-        tree,
+        tree: disk.into_tree(),
         moment,
         is_pending,
         faults,
-    })
+    }
 }
 
 /// Edits of one operation each, a line each.

@@ -130,15 +130,19 @@ fn piece_may_fail(alloc: Global, number: u64) -> Result<bool, Fail> {
     ends_as_said(alloc, &case, ServeEnd::Write)
 }
 
+/// The disk's call, the read and the piece with that number.
+fn calls_may_fail(alloc: Global, number: u64) -> Result<bool, Fail> {
+    Ok(
+        disk_call_may_fail(alloc, number)?
+            && read_may_fail(alloc, number)?
+            && piece_may_fail(alloc, number)?,
+    )
+}
+
 #[test]
 fn each_call_may_fail(rt: HostRuntime) -> Result<(), Fail> {
     for number in 1..40 {
-        assert!(rt;
-            disk_call_may_fail(rt.alloc(), number)?,
-            "disk call {number}"
-        );
-        assert!(rt; read_may_fail(rt.alloc(), number)?, "read {number}");
-        assert!(rt; piece_may_fail(rt.alloc(), number)?, "piece {number}");
+        assert!(rt; calls_may_fail(rt.alloc(), number)?, "call {number}");
     }
     Ok(())
 }

@@ -195,24 +195,25 @@ fn failure(alloc: Global, words: &str) -> Result<Option<(u64, Reason)>, Fail> {
     }
 }
 
+fn limit(words: &str) -> Option<Hit> {
+    if words.is_empty() {
+        return None;
+    }
+    Some(hit(words))
+}
+
+/// One of the parts between commas.
+fn part(words: &str, index: usize) -> &str {
+    words.split(',').nth(index).unwrap_or("").trim()
+}
+
 /// An edit's answer: what changed, the element, the failed operation with its reason, the limit, and what was left out.
 pub fn edited(alloc: Global, words: &str) -> Result<Reply, Fail> {
-    let mut parts = words.split(',');
-    let changed = numbered(alloc, parts.next().unwrap_or(""))?;
-    let element = parts.next().unwrap_or("").trim().parse::<u64>().ok();
-    let failed = failure(alloc, parts.next().unwrap_or("").trim())?;
-    let passed = parts.next().unwrap_or("").trim();
-    let limit = if passed.is_empty() {
-        None
-    } else {
-        Some(hit(passed))
-    };
-    let skipped = skips(alloc, parts.next().unwrap_or("").trim())?;
     Ok(Reply::Answer(Answer::Edit {
-        changed,
-        element,
-        failed,
-        limit,
-        skipped,
+        changed: numbered(alloc, part(words, 0))?,
+        element: part(words, 1).parse::<u64>().ok(),
+        failed: failure(alloc, part(words, 2))?,
+        limit: limit(part(words, 3)),
+        skipped: skips(alloc, part(words, 4))?,
     }))
 }

@@ -77,26 +77,26 @@ named_first told limits statuses.Memory h e = absurd (omega arith)
 named_first told limits (statuses.TooBig hit) h e = h hit refl
 named_first told limits statuses.InputLimit h e = absurd (omega arith)
 
-pub line_by_code : (most : ℕ) (status : Status) → line_for most (named status) (code_of status) ≡ line_of most status
-line_by_code most statuses.Done = refl
-line_by_code most statuses.Words = refl
-line_by_code most statuses.Read = refl
-line_by_code most statuses.Write = refl
-line_by_code most statuses.Disk = refl
-line_by_code most statuses.Memory = refl
-line_by_code most (statuses.TooBig hit) = refl
-line_by_code most statuses.InputLimit = refl
+pub line_by_code : (max_input : ℕ) (status : Status) → line_for max_input (named status) (code_of status) ≡ line_of max_input status
+line_by_code max_input statuses.Done = refl
+line_by_code max_input statuses.Words = refl
+line_by_code max_input statuses.Read = refl
+line_by_code max_input statuses.Write = refl
+line_by_code max_input statuses.Disk = refl
+line_by_code max_input statuses.Memory = refl
+line_by_code max_input (statuses.TooBig hit) = refl
+line_by_code max_input statuses.InputLimit = refl
 
 -- the number of a status says what the end does
 pub ending_is : (end : ServeEnd) (status : Status) → status ≡ status_of end → ending_by (code_of status) ≡ ending_of end
 ending_is end status is = ap (λ (x : Status). ending_by (code_of x)) is ∙ ending_code end
 
 -- a run by its status
-pub by_code : (root given : Parts) (limits : Limits) (most : ℕ) (before now : Scene) (end : ServeEnd) (status : Status) → given ≡ root → status ≡ status_of end
-    → RunsEdits given limits most before now (ending_of end) → RunsEdits root limits most before now (ending_by (code_of status))
-by_code root given limits most before now end status e is run =
-    subst (λ (r : Parts). RunsEdits r limits most before now (ending_by (code_of status))) e
-    (subst (λ (x : Ending). RunsEdits given limits most before now x) (sym (ending_is end status is)) run)
+pub by_code : (root given : Parts) (limits : Limits) (max_input : ℕ) (before now : Scene) (end : ServeEnd) (status : Status) → given ≡ root → status ≡ status_of end
+    → RunsEdits given limits max_input before now (ending_of end) → RunsEdits root limits max_input before now (ending_by (code_of status))
+by_code root given limits max_input before now end status e is run =
+    subst (λ (r : Parts). RunsEdits r limits max_input before now (ending_by (code_of status))) e
+    (subst (λ (x : Ending). RunsEdits given limits max_input before now x) (sym (ending_is end status is)) run)
 
 pub same_root : (a b : Parts) → ◌≡◌ {A = Option Parts} (Some a) (Some b) → a ≡ b
 same_root a b e = cc

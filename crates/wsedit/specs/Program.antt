@@ -2,5 +2,5 @@
 use Rattle.std.specs.Prelude.{ℕ}
 
 -- The most bytes of input that a run reads as lines.
-abbrev pub most_input : ℕ
-most_input = 4294967296
+abbrev pub max_input : ℕ
+max_input = 4294967296

@@ -55,40 +55,40 @@ abbrev pub too_big_line : Hit → List ℕ
 too_big_line hit = (codes "wsedit: too big: " ++ (limit_name hit.which ++ codes " ")) ++ (decimal hit.would_be ++ codes "\n")
 
 abbrev pub limit_line : ℕ → List ℕ
-limit_line most = codes "wsedit: input past " ++ (decimal most ++ codes " bytes\n")
+limit_line max_input = codes "wsedit: input past " ++ (decimal max_input ++ codes " bytes\n")
 
 -- The line that tells people of a status, where at most so many bytes are read as lines.
 abbrev pub line_of : ℕ → Status → List ℕ
-line_of most Done = []
-line_of most Words = codes "wsedit: words not understood\n"
-line_of most Read = codes "wsedit: reading failed\n"
-line_of most Write = codes "wsedit: writing failed\n"
-line_of most Disk = codes "wsedit: disk failed\n"
-line_of most Memory = codes "wsedit: out of memory\n"
-line_of most (TooBig hit) = too_big_line hit
-line_of most InputLimit = limit_line most
+line_of max_input Done = []
+line_of max_input Words = codes "wsedit: words not understood\n"
+line_of max_input Read = codes "wsedit: reading failed\n"
+line_of max_input Write = codes "wsedit: writing failed\n"
+line_of max_input Disk = codes "wsedit: disk failed\n"
+line_of max_input Memory = codes "wsedit: out of memory\n"
+line_of max_input (TooBig hit) = too_big_line hit
+line_of max_input InputLimit = limit_line max_input
 
 -- The same by the number.
 abbrev pub line_for : ℕ → Hit → ℕ → List ℕ
-line_for most hit code =
-    if nat_eq code 0 then line_of most Done
-    else (if nat_eq code 2 then line_of most Words
-    else (if nat_eq code 3 then line_of most Read
-    else (if nat_eq code 4 then line_of most Write
-    else (if nat_eq code 5 then line_of most Disk
-    else (if nat_eq code 6 then line_of most Memory
-    else (if nat_eq code 8 then line_of most (TooBig hit)
-    else line_of most InputLimit))))))
+line_for max_input hit code =
+    if nat_eq code 0 then line_of max_input Done
+    else (if nat_eq code 2 then line_of max_input Words
+    else (if nat_eq code 3 then line_of max_input Read
+    else (if nat_eq code 4 then line_of max_input Write
+    else (if nat_eq code 5 then line_of max_input Disk
+    else (if nat_eq code 6 then line_of max_input Memory
+    else (if nat_eq code 8 then line_of max_input (TooBig hit)
+    else line_of max_input InputLimit))))))
 
 -- The limit that a status tells is the first that the tree passes that is read.
 abbrev pub IsHitOf : Option Standing → Limits → Status → Type 0
 IsHitOf told limits status = (hit : Hit) → status ≡ TooBig hit → WhereTold told (λ s. start_hit limits s.reading.files ≡ Some hit)
 
 -- The line is that of the status, and the limit that it may name is the first that the tree passes that is read.
-pub record IsLineFor (told : Option Standing) (limits : Limits) (most : ℕ) (status : ℕ) (line : List ℕ) : Type 0 where
+pub record IsLineFor (told : Option Standing) (limits : Limits) (max_input : ℕ) (status : ℕ) (line : List ℕ) : Type 0 where
   pub hit : Hit
   pub is_first : status ≡ 8 → WhereTold told (λ s. start_hit limits s.reading.files ≡ Some hit)
-  pub is_line : line ≡ line_for most hit status
+  pub is_line : line ≡ line_for max_input hit status
 
 -- A front of such a line came to the sink, and all of it where the sink didn't fail.
 pub record TellsLine (IsTheLine : List ℕ → Type 0) (old new : Option (List Piece)) (faults_old faults_new : ℕ) : Type 0 where

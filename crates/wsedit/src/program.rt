@@ -7,7 +7,7 @@ ghost use Rattle.wse_serve.specs.Ending.{ending_of, HasCauses};
 ghost use Rattle.wse_serve.specs.Start.{RunsEdits, TellsHit};
 ghost use Rattle.wsedit.specs.Status.{code_of, IsStatus, IsLineFor, IsHitOf, TellsLine, ending_by};
 ghost use Rattle.wsedit.specs.Words.{texts_of, run_root};
-ghost use Rattle.wsedit.specs.Program.{most_input};
+ghost use Rattle.wsedit.specs.Program.{max_input};
 
 use crate::status::Status;
 use crate::words::{RunWords, read_words};
@@ -162,7 +162,7 @@ pub fn run<S: Source, K: Sink, E: Sink, D: Place>(
     ensures untouched { run_root (texts_of words.now) ≡ None → ((result.status ≡ 2) ⊎ (result.status ≡ 6))
         × (result.disk ≡ disk) × (source.new ≡ source.old) × (out.new ≡ out.old) }
     ensures run { (root : Parts) → run_root (texts_of words.now) ≡ Some root
-        → RunsEdits root standard most_input
+        → RunsEdits root standard max_input
         (scene (S.left source.old) (K.pieces out.old) (disk_at D.moment_of D.told disk))
         (scene (S.left source.new) (K.pieces out.new) (disk_at D.moment_of D.told result.disk))
         (ending_by result.status) }
@@ -171,7 +171,7 @@ pub fn run<S: Source, K: Sink, E: Sink, D: Place>(
         (faults (S.faults source.old) (K.faults out.old) (D.faults disk))
         (faults (S.faults source.new) (K.faults out.new) (D.faults result.disk)) }
     ensures statuses { IsStatus result.status }
-    ensures told { TellsLine (IsLineFor (D.told disk) standard most_input result.status)
+    ensures told { TellsLine (IsLineFor (D.told disk) standard max_input result.status)
         (E.pieces errs.old) (E.pieces errs.new) (E.faults errs.old) (E.faults errs.new) }
 {
     let bounds = Bounds {

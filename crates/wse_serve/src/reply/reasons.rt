@@ -1,7 +1,9 @@
 // Why an edit failed, in words.
 ghost use Rattle.std.specs.Prelude.{◌≡◌, ◌++◌, IfOk, map, string_bytes};
 ghost use Rattle.wse_path.specs.Path.{text_of};
-ghost use Rattle.wse_serve.specs.Reasons.{operation_text, inside_text, overlap_text, version_text, locked_text, reason_text};
+ghost use Rattle.wse_edits.specs.Words.{inside_text, overlap_text};
+ghost use Rattle.wse_resource.specs.Words.{operation_text};
+ghost use Rattle.wse_serve.specs.Reasons.{version_text, locked_text, reason_text};
 
 use crate::reply::limits::limit_text;
 use std::alloc::Global;

@@ -1,7 +1,9 @@
 // Why a line is refused, as JSON.
 ghost use Rattle.std.specs.Prelude.{◌≡◌, IfOk, string_bytes};
 ghost use Rattle.serde_json.specs.View.{view};
-ghost use Rattle.wse_serve.specs.Refusals.{path_text, segment_text, uri_text, refused_data, field_data, uri_data, annotation_data, too_long_data, shape_data};
+ghost use Rattle.wse_path.specs.Path.{words_of};
+ghost use Rattle.wse_uri.specs.Words.{uri_text};
+ghost use Rattle.wse_serve.specs.Refusals.{refused_data, field_data, uri_data, annotation_data, too_long_data, shape_data};
 
 use serde_json::{Value, json};
 use std::alloc::Global;
@@ -10,7 +12,7 @@ use wse_path::{Memory, PathRefused};
 use wse_uri::UriRefused;
 
 fn path_text(alloc: Global, why: PathRefused) -> Result<String, Memory>
-    ensures { IfOk result (λ text. string_bytes text ≡ path_text why) }
+    ensures { IfOk result (λ text. string_bytes text ≡ words_of why) }
 {
     match why {
         PathRefused::Empty => Ok(String::from_str(alloc, "no segment")?),

@@ -68,6 +68,15 @@ fn sink_of(alloc: Global, fails: u64) -> Result<MemSink, Fail> {
     Ok(MemSink::new(alloc, 65_536, [fails].to_vec(alloc)?))
 }
 
+fn source_of(alloc: Global, input: &str, fails: u64) -> Result<MemSource, Fail> {
+    let bytes = input.as_bytes().to_vec(alloc)?;
+    Ok(MemSource::new(bytes, 65_536, [fails].to_vec(alloc)?))
+}
+
+fn disk_of(alloc: Global, tree: Tree, fails: u64) -> Result<MemDisk, Fail> {
+    Ok(MemDisk::new(alloc, tree, [fails].to_vec(alloc)?))
+}
+
 fn bounds_of(case: &Case) -> Bounds {
     Bounds {
         max_input: case.max_input.max(1).min(1_000_000),
@@ -75,15 +84,19 @@ fn bounds_of(case: &Case) -> Bounds {
     }
 }
 
-fn run_case(alloc: Global, case: &Case, input: &str) -> Result<Outcome, Fail> {
+/// The run of the case within the bounds, over a disk that holds the tree.
+fn run_over(
+    alloc: Global,
+    case: &Case,
+    bounds: Bounds,
+    tree: Tree,
+    input: &str,
+) -> Result<Outcome, Fail> {
     let words = words_of(alloc, case.words)?;
-    let fails = [case.disk_fails].to_vec(alloc)?;
-    let disk = MemDisk::new(alloc, Tree::new(alloc), fails);
-    let fails = [case.source_fails].to_vec(alloc)?;
-    let mut source = MemSource::new(input.as_bytes().to_vec(alloc)?, 65_536, fails);
+    let disk = disk_of(alloc, tree, case.disk_fails)?;
+    let mut source = source_of(alloc, input, case.source_fails)?;
     let mut out = sink_of(alloc, case.out_fails)?;
     let mut errs = sink_of(alloc, case.errs_fails)?;
-    let bounds = bounds_of(case);
     let Ended { status, disk } = run_within(
         alloc,
         &words,
@@ -102,7 +115,15 @@ fn run_case(alloc: Global, case: &Case, input: &str) -> Result<Outcome, Fail> {
     })
 }
 
-/// Whether the run ends with the status, the answers, the line at errs and so many files.
+impl Outcome {
+    /// Whether the run ended with the status, the answers, the line at errs and so many files.
+    fn is(&self, status: u8, out: &str, errs: &str, files: usize) -> bool {
+        let told = self.out.bytes() == out.as_bytes() && self.errs.bytes() == errs.as_bytes();
+        told && self.status == status && self.files == files
+    }
+}
+
+/// Whether the run over an empty disk ends with the status, the answers, the line at errs and so many files.
 fn ends(
     alloc: Global,
     case: &Case,
@@ -112,9 +133,8 @@ fn ends(
     errs: &str,
     files: usize,
 ) -> Result<bool, Fail> {
-    let got = run_case(alloc, case, input)?;
-    let told = got.out.bytes() == out.as_bytes() && got.errs.bytes() == errs.as_bytes();
-    Ok(told && got.status == status && got.files == files)
+    let got = run_over(alloc, case, bounds_of(case), Tree::new(alloc), input)?;
+    Ok(got.is(status, out, errs, files))
 }
 
 const OTHER_WORDS: &str = "run t s
@@ -257,39 +277,58 @@ fn put_empty(alloc: Global, tree: &mut Tree, name: &str) -> Result<(), Fail> {
     Ok(())
 }
 
-/// A disk with two files, which may have one.
-fn two_files_are_too_many(alloc: Global) -> Result<bool, Fail> {
-    let words = words_of(alloc, GOOD_WORDS)?;
+fn two_files(alloc: Global) -> Result<Tree, Fail> {
     let mut tree = Tree::new(alloc);
     put_empty(alloc, &mut tree, "a")?;
     put_empty(alloc, &mut tree, "b")?;
-    let disk = MemDisk::new(alloc, tree, Vec::new(alloc));
-    let mut source = MemSource::new(CREATE_A.as_bytes().to_vec(alloc)?, 65_536, Vec::new(alloc));
-    let mut out = sink_of(alloc, 0)?;
-    let mut errs = sink_of(alloc, 0)?;
-    let bounds = Bounds {
+    Ok(tree)
+}
+
+fn one_file_at_most() -> Bounds {
+    Bounds {
         max_input: 1_000_000,
         limits: Limits {
             files: 1,
             ..Limits::standard()
         },
-    };
-    let Ended { status, disk: _ } = run_within(
-        alloc,
-        &words,
-        &mut source,
-        &mut out,
-        &mut errs,
-        disk,
-        bounds,
-    );
-    let told = errs.bytes() == b"wsedit: too big: files 2\n".as_slice();
-    Ok(status == 8 && told && out.bytes().is_empty())
+    }
+}
+
+fn two_files_are_too_many(alloc: Global) -> Result<bool, Fail> {
+    let bounds = one_file_at_most();
+    let got = run_over(alloc, &PLAIN, bounds, two_files(alloc)?, CREATE_A)?;
+    Ok(got.is(8, "", "wsedit: too big: files 2\n", 2))
 }
 
 #[test]
 fn a_tree_that_is_too_big_has_status_8(rt: HostRuntime) -> Result<(), Fail> {
     assert!(rt; two_files_are_too_many(rt.alloc())?);
+    Ok(())
+}
+
+/// No path may have a version: one of one byte counts 33.
+fn nothing_known() -> Bounds {
+    Bounds {
+        max_input: 1_000_000,
+        limits: Limits {
+            known: 32,
+            ..Limits::standard()
+        },
+    }
+}
+
+const TOO_MUCH_KNOWN: &str =
+    r#"{"applied":false,"changed":{},"element":null,"failureReason":"limit known: 33","n":1,"skipped":[]}
+"#;
+
+fn an_edit_passes_known(alloc: Global) -> Result<bool, Fail> {
+    let got = run_over(alloc, &PLAIN, nothing_known(), Tree::new(alloc), CREATE_A)?;
+    Ok(got.is(0, TOO_MUCH_KNOWN, "", 0))
+}
+
+#[test]
+fn an_edit_that_passes_known_changes_nothing(rt: HostRuntime) -> Result<(), Fail> {
+    assert!(rt; an_edit_passes_known(rt.alloc())?);
     Ok(())
 }
 
@@ -377,7 +416,7 @@ fn placed_by(alloc: Global, words: &str) -> Result<Blank, Fail> {
         as_said: false,
         read_too_early: false,
     };
-    let mut source = MemSource::new(CREATE_A.as_bytes().to_vec(alloc)?, 65_536, Vec::new(alloc));
+    let mut source = source_of(alloc, CREATE_A, 0)?;
     let mut out = sink_of(alloc, 0)?;
     let mut errs = sink_of(alloc, 0)?;
     let bounds = bounds_of(&PLAIN);

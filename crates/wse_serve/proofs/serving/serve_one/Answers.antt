@@ -24,7 +24,8 @@ returns-in-Err-clause-run g c =
     let stopped = c.in-Err.stopped in
     let same = c.into_fault.ensures.fault in
     let later : g.D.Disk.moment_of c.args.session.disk ≤ g.D.Disk.moment_of (fault_disk (fault_of stopped)) = subst (λ d. g.D.Disk.moment_of c.args.session.disk ≤ g.D.Disk.moment_of d) (sym c.into_fault.ensures.disk ∙ ap (λ f. fault_disk f) same) c.in-Err.ensures.later in
-    let ran = ran_stopped g.D.Disk.told g.D.Disk.moment_of root limits (at c.args.session.disk) c.args.n s c.args.line.now stopped later c.in-Err.ensures.left in (
+    let disk = sym c.into_fault.ensures.disk ∙ ap (λ f. fault_disk f) same in
+    let ran = ran_stopped g.D.Disk.told g.D.Disk.moment_of root limits (at c.args.session.disk) c.args.n s c.args.line.now stopped later (λ keeps. ap g.D.Disk.told (subst (λ d. d ≡ c.args.session.disk) disk (c.in-Err.ensures.untouched keeps))) c.in-Err.ensures.left in (
       [],
       adds_none _ _ refl,
       subst (λ (f : ServeFault g.row.D.Denot). Ran (edits root limits) (is_disk_fault {D = g.row.D.Denot} (Err f)) (at c.args.session.disk) (at (fault_disk f)) c.args.n s (c.args.line.now ∷ []) []) (sym same) ran,
@@ -39,7 +40,7 @@ returns-in-Err-reply_text-clause-run g c =
     let at = disk_at g.D.Disk.moment_of g.D.Disk.told in
     let now = c.in-Ok.performed.0 in
     let agrees = subst (λ u. StandsFor u (g.D.Disk.told now.disk)) c.in-Ok.ensures.state c.in-Ok.ensures.agrees in
-    let ran = ran_unsaid m false (at c.args.session.disk) (at now.disk) c.args.n s c.args.line.now c.in-Ok.ensures.later agrees in
+    let ran = ran_unsaid m false (at c.args.session.disk) (at now.disk) c.args.n s c.args.line.now c.in-Ok.ensures.later (λ keeps. ap g.D.Disk.told (c.in-Ok.ensures.untouched keeps)) agrees in
     ([], adds_none _ _ refl, subst (λ d. Ran m false (at c.args.session.disk) (at d) c.args.n s (c.args.line.now ∷ []) []) (sym c.into_disk.ensures) ran, tt)
 
 -- the answer was emitted
@@ -55,7 +56,7 @@ returns-in-Ok-emit_all-clause-run g c =
     let all : c.as_slice.result.now ≡ transcript m n s (line ∷ []) = c.as_slice.ensures ∙ c.in-Ok-reply_text.ensures ∙ ap (reply_text n) c.in-Ok.ensures.answer ∙ sym (transcript-one m n s line) in
     let front = subst (λ t. IsPrefix (bytes_of out.0) t) all out.3 in
     let agrees = subst (λ u. StandsFor u (g.D.Disk.told now.disk)) c.in-Ok.ensures.state c.in-Ok.ensures.agrees in
-    (out.0, out.1, ran_emitted m false (at c.args.session.disk) (at now.disk) n s line out.0 c.in-Ok.ensures.later out.2 front agrees, out.4 ∙ all)
+    (out.0, out.1, ran_emitted m false (at c.args.session.disk) (at now.disk) n s line out.0 c.in-Ok.ensures.later (λ keeps. ap g.D.Disk.told (c.in-Ok.ensures.untouched keeps)) out.2 front agrees, out.4 ∙ all)
 
 -- a front of it was
 pub returns-clause-run : goal.returns-clause-run
@@ -70,5 +71,5 @@ returns-clause-run g c =
     let all : c.as_slice.result.now ≡ transcript m n s (line ∷ []) = c.as_slice.ensures ∙ c.in-Ok-reply_text.ensures ∙ ap (reply_text n) c.in-Ok.ensures.answer ∙ sym (transcript-one m n s line) in
     let front = subst (λ t. IsPrefix (bytes_of out.0) t) all out.3 in
     let agrees = subst (λ u. StandsFor u (g.D.Disk.told now.disk)) c.in-Ok.ensures.state c.in-Ok.ensures.agrees in
-    let ran = ran_emitted m false (at c.args.session.disk) (at now.disk) n s line out.0 c.in-Ok.ensures.later out.2 front agrees in
+    let ran = ran_emitted m false (at c.args.session.disk) (at now.disk) n s line out.0 c.in-Ok.ensures.later (λ keeps. ap g.D.Disk.told (c.in-Ok.ensures.untouched keeps)) out.2 front agrees in
     (out.0, out.1, subst (λ d. Ran m false (at c.args.session.disk) (at d) n s (line ∷ []) out.0) (sym c.into_disk-in-Err-emit_all.ensures) ran, tt)

@@ -4,14 +4,14 @@ use Rattle.wse_path.specs.Tree.{Entries}
 use Rattle.wse_serve.specs.Scene.{disk_at}
 use Rattle.wse_serve.specs.Start.{start_hit}
 use Rattle.wse_serve.specs.declared.serving.ServeEnd.TheVariants.{Disk}
-use Rattle.wse_serve.proofs.Starting.{first_state, first_start, first_same, edits_unread, edits_earlier}
+use Rattle.wse_serve.proofs.Starting.{first_state, first_start, edits_unread, edits_earlier}
 use Rattle.wsedit.proofs.program.place_and_serve.Goals as goal
 
 pub returns-in_default-clause-run : goal.returns-in_default-clause-run
 returns-in_default-clause-run g c =
     let at = disk_at g.D.Disk.moment_of g.D.Disk.told in
     edits_unread c.args.words.root c.args.bounds.limits c.args.bounds.max_input _ _ (at c.args.disk) (at c.place.new.self) (first_state (files_of (g.D.Disk.told c.args.disk))) Disk tt (λ e. cc)
-    c.in_default.ensures.later (first_start (g.D.Disk.told c.args.disk)) (first_same (g.D.Disk.told c.args.disk) (g.D.Disk.told c.place.new.self) c.in_default.ensures.same)
+    c.in_default.ensures.later (first_start (g.D.Disk.told c.args.disk)) c.in_default.ensures.same
 
 pub returns-clause-run : goal.returns-clause-run
 returns-clause-run g c =

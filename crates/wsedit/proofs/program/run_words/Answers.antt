@@ -3,7 +3,7 @@ use Rattle.wse_disk.specs.Told.{files_of}
 use Rattle.wse_serve.specs.Scene.{disk_at, scene}
 use Rattle.wse_serve.specs.Start.{RunsEdits}
 use Rattle.wse_serve.specs.declared.serving.ServeEnd.TheVariants.{Memory}
-use Rattle.wse_serve.proofs.Starting.{first_state, first_start, first_same, edits_unread}
+use Rattle.wse_serve.proofs.Starting.{first_state, first_start, edits_unread}
 use Rattle.wsedit.proofs.ByStatus.{by_code, same_root}
 use Rattle.wsedit.proofs.program.run_words.Goals as goal
 
@@ -12,7 +12,7 @@ pub returns-in-Err-clause-run : goal.returns-in-Err-clause-run
 returns-in-Err-clause-run g c = λ root is.
     let at = disk_at g.D.Disk.moment_of g.D.Disk.told in
     edits_unread root c.args.bounds.limits c.args.bounds.max_input _ _ (at c.args.disk) (at c.args.disk) (first_state (files_of (g.D.Disk.told c.args.disk))) Memory tt (λ e. cc)
-    (omega arith) (first_start (g.D.Disk.told c.args.disk)) (first_same (g.D.Disk.told c.args.disk) (g.D.Disk.told c.args.disk) refl)
+    (omega arith) (first_start (g.D.Disk.told c.args.disk)) refl
 
 -- the run by its status
 pub returns-in-Ok-Some-clause-run : goal.returns-in-Ok-Some-clause-run

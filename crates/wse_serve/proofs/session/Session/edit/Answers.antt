@@ -9,7 +9,7 @@ use Rattle.wse_serve.specs.Edits.{raised, hit_by_edit, after_edit}
 use Rattle.wse_serve.specs.Session.{state_of, pairs_of, IsSound}
 use Rattle.wse_serve.proofs.BumpLemmas.{raised_sorted}
 use Rattle.wse_serve.proofs.SessionLemmas.{leaves_between}
-use Rattle.wse_serve.proofs.SoundLemmas.{done_same, found_fits, found_small, found_sorted, found_leads, hit_is, after_hit, answer_hit, after_made, answer_made, between_made, sound_next}
+use Rattle.wse_serve.proofs.SoundLemmas.{done_same, found_fits, found_small, found_sorted, found_leads, hit_is, after_hit, answer_hit, after_made, answer_made, between_made, nothing_made, sound_next}
 use Rattle.wse_serve.proofs.session.Session.edit.Goals as goal
 
 pub raised-requires : goal.raised-requires
@@ -98,3 +98,11 @@ returns-clause-left g c =
     let changed = c.as_slice-2.ensures ∙ c.in-Ok-raised.ensures ∙ ap (raised c.args.self.versions.entries) c.as_slice.ensures in
     let hit : None ≡ hit_by_edit c.args.limits.now s c.args.by c.args.edit.now = hit_is c.args.limits.now s c.args.by c.args.edit.now c.requires.within c.requires.sound c.in-Ok.done is None c.as_slice-2.result.now changed c.in-None.ensures in
     IfErr-weaker c.make.result _ _ (leaves_between g.D.Disk.told s (after_edit c.args.limits.now s c.args.by c.args.edit.now) c.in-Ok.done.changes (between_made c.args.limits.now s c.args.by c.args.edit.now c.requires.within c.requires.sound c.in-Ok.done is hit)) c.make.ensures.left
+
+pub returns-clause-untouched : goal.returns-clause-untouched
+returns-clause-untouched g c =
+    let s = state_of c.args.self in
+    let is = done_same c.args.limits.now s c.args.by c.args.edit.now c.new-locks.result.entries c.in-Ok.done c.new-locks.ensures c.in-Ok.ensures in
+    let changed = c.as_slice-2.ensures ∙ c.in-Ok-raised.ensures ∙ ap (raised c.args.self.versions.entries) c.as_slice.ensures in
+    let hit : None ≡ hit_by_edit c.args.limits.now s c.args.by c.args.edit.now = hit_is c.args.limits.now s c.args.by c.args.edit.now c.requires.within c.requires.sound c.in-Ok.done is None c.as_slice-2.result.now changed c.in-None.ensures in
+    λ same. c.make.ensures.untouched (nothing_made c.args.limits.now s c.args.by c.args.edit.now c.requires.within c.requires.sound c.in-Ok.done is hit same)

@@ -78,3 +78,10 @@ pub returns-in_default-change_synced-clause-left : goal.returns-in_default-chang
 returns-in_default-change_synced-clause-left g c =
     only_stands (g.D.Disk.told c.args.self.disk) (g.D.Disk.told c.change_synced.new.disk) c.args.self.tree.files c.args.done.changes c.requires.agrees
     (subst (λ (l : List Change). HasChangedOnly l (g.D.Disk.told c.args.self.disk) (g.D.Disk.told c.change_synced.new.disk)) c.as_slice.ensures c.in_default-change_synced.ensures.left)
+
+-- it wasn't called where there are no changes
+pub returns-clause-untouched : goal.returns-clause-untouched
+returns-clause-untouched g c = λ none. c.in-Ok-change_synced.ensures.untouched (c.as_slice.ensures ∙ none)
+
+pub returns-in_default-change_synced-clause-untouched : goal.returns-in_default-change_synced-clause-untouched
+returns-in_default-change_synced-clause-untouched g c = λ none. c.in_default-change_synced.ensures.untouched (c.as_slice.ensures ∙ none)
