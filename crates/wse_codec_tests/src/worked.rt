@@ -2,7 +2,7 @@
 use crate::made::{RECORD, bytes, is_record};
 use std::alloc::Global;
 use std::test::Fail;
-use wse_codec::read_record;
+use wse_codec::{RecordRefused, read_record};
 use wse_element::{Body, Effect, Element, Part};
 use wse_path::RelPath;
 
@@ -47,5 +47,12 @@ fn a_record_is_read_and_written(rt: HostRuntime) -> Result<(), Fail> {
     let alloc = rt.alloc();
     assert!(rt; is_read(alloc)?);
     assert!(rt; is_record(alloc, &bytes(alloc, RECORD)?)?);
+    Ok(())
+}
+
+#[test]
+fn what_is_no_record_is_told(rt: HostRuntime) -> Result<(), Fail> {
+    let told = RecordRefused::NotARecord { at: 7 }.to_string(rt.alloc())?;
+    assert!(rt; told.as_str() == "not a record at byte 7");
     Ok(())
 }

@@ -1,5 +1,6 @@
 pub mod Place
 pub mod Path
+pub mod Words
 pub mod PathMap
 pub mod Order
 pub mod Tree

@@ -125,3 +125,20 @@ impl fmt::Display for PathRefused {
 }
 
 impl Error for PathRefused {}
+
+/// A refused path in its words.
+impl fmt::Display for TextRefused {
+    ghost use Rattle.std.specs.Prelude.{Some};
+    ghost use Rattle.wse_path.specs.Words.{words_of_text};
+
+    ghost output = { λ why. Some (words_of_text why) };
+
+    fn fmt<W: fmt::Write>(&self, f: &mut fmt::Formatter<W>) -> fmt::Result {
+        match *self {
+            TextRefused::Path(why) => write!(f, "{why}"),
+            TextRefused::Memory => f.write_str("out of memory"),
+        }
+    }
+}
+
+impl Error for TextRefused {}

@@ -2,6 +2,7 @@ use crate::make::{path, paths};
 use std::alloc::Global;
 use std::test::Fail;
 use wse_locks::{LockRefused, Locks, NotHeld};
+use wse_path::Files;
 
 fn takes(alloc: Global, locks: &mut Locks, by: u32, texts: &str) -> Result<bool, Fail> {
     Ok(locks.take(alloc, by, &paths(alloc, texts)?).is_ok())
@@ -71,6 +72,19 @@ fn is_freed_by_its_holder(alloc: Global, locks: &mut Locks) -> Result<bool, Fail
 fn a_lock_is_freed_by_its_holder(rt: HostRuntime) -> Result<(), Fail> {
     let mut locks = Locks::new(rt.alloc());
     assert!(rt; is_freed_by_its_holder(rt.alloc(), &mut locks)?);
+    Ok(())
+}
+
+fn is_told(alloc: Global, texts: &str, words: &str) -> Result<bool, Fail> {
+    let files = Files::new(paths(alloc, texts)?);
+    let told = LockRefused::Held { files }.to_string(alloc)?;
+    Ok(told.as_str() == words)
+}
+
+#[test]
+fn locks_of_another_are_told(rt: HostRuntime) -> Result<(), Fail> {
+    assert!(rt; is_told(rt.alloc(), "a", "held: a")?);
+    assert!(rt; is_told(rt.alloc(), "a b/c", "held: a, b/c")?);
     Ok(())
 }
 

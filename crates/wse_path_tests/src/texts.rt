@@ -38,6 +38,19 @@ fn a_refusal_is_told_in_words(rt: HostRuntime) -> Result<(), Fail> {
     Ok(())
 }
 
+fn is_told(alloc: Global, text: &str, words: &str) -> Result<bool, Fail> {
+    match RelPath::from_text(alloc, text) {
+        Err(why) => Ok(format!(in alloc; "{why}")?.as_str() == words),
+        Ok(_) => Ok(false),
+    }
+}
+
+#[test]
+fn a_text_is_refused_in_the_words_of_its_path(rt: HostRuntime) -> Result<(), Fail> {
+    assert!(rt; is_told(rt.alloc(), "a//b", "segment 1 is not a name")?);
+    Ok(())
+}
+
 fn has_string(alloc: Global, text: &str) -> Result<bool, Fail> {
     Ok(path(alloc, text)?.text(alloc)?.into_string().as_str() == text)
 }

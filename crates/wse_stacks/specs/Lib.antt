@@ -6,3 +6,4 @@ pub mod Prepared
 pub mod Draft
 pub mod Refused
 pub mod Paths
+pub mod Words

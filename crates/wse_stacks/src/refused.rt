@@ -1,4 +1,6 @@
 // Why elements or effects are refused.
+use std::error::Error;
+use std::fmt;
 use wse_path::Memory;
 
 /// Why elements make no stacks.
@@ -22,6 +24,22 @@ impl From<Memory> for StacksRefused {
     }
 }
 
+impl fmt::Display for StacksRefused {
+    ghost use Rattle.std.specs.Prelude.{Some};
+    ghost use Rattle.wse_stacks.specs.Words.{stacks_text};
+
+    ghost output = { λ why. Some (stacks_text why) };
+
+    fn fmt<W: fmt::Write>(&self, f: &mut fmt::Formatter<W>) -> fmt::Result {
+        match *self {
+            StacksRefused::NotLinked { index } => write!(f, "not linked at element {index}"),
+            StacksRefused::Memory => f.write_str("out of memory"),
+        }
+    }
+}
+
+impl Error for StacksRefused {}
+
 /// Why a list of effects isn't prepared.
 #[derive(Debug, Clone, Copy, PartialEq, Eq)]
 pub enum ReserveRefused {
@@ -41,3 +59,21 @@ impl From<Memory> for ReserveRefused {
         ReserveRefused::Memory
     }
 }
+
+impl fmt::Display for ReserveRefused {
+    ghost use Rattle.std.specs.Prelude.{Some};
+    ghost use Rattle.wse_stacks.specs.Words.{reserve_text};
+
+    ghost output = { λ why. Some (reserve_text why) };
+
+    fn fmt<W: fmt::Write>(&self, f: &mut fmt::Formatter<W>) -> fmt::Result {
+        match *self {
+            ReserveRefused::NotApplicable { index } => {
+                write!(f, "effect {index} is not applicable")
+            }
+            ReserveRefused::Memory => f.write_str("out of memory"),
+        }
+    }
+}
+
+impl Error for ReserveRefused {}

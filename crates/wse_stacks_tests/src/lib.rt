@@ -26,4 +26,6 @@ mod rules;
 #[cfg(test)]
 mod same;
 #[cfg(test)]
+mod words;
+#[cfg(test)]
 mod world;

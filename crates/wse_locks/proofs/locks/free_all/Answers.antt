@@ -1,4 +1,4 @@
-use Rattle.std.proofs.Common.{◌≡◌, ◌+◌, List, None, ◌++◌, ◌∷◌, [], take, get_or, cond, sym, ap, ◌∙◌}
+use Rattle.std.proofs.Common.{List, None, ◌++◌, ◌∷◌, [], take, cond, sym, ap, ◌∙◌}
 use Rattle.std.proofs.lemmas.List.{take_more}
 use Rattle.std.specs.Ordering.{eq_by_cmp}
 use Rattle.wse_path.specs.Order.{path_cmp}

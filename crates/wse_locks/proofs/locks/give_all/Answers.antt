@@ -1,4 +1,4 @@
-use Rattle.std.proofs.Common.{◌≡◌, ◌++◌, ◌∷◌, [], List, Some, length, cond, sym, ap, ◌∙◌, arith, append_assoc}
+use Rattle.std.proofs.Common.{◌++◌, ◌∷◌, [], List, Some, length, cond, sym, ap, ◌∙◌, arith, append_assoc}
 use Rattle.std.specs.FinMap.Entries.{find-put}
 use Rattle.std.specs.Ordering.{eq_by_cmp}
 use Rattle.wse_path.specs.Order.{path_cmp}

@@ -1,8 +1,8 @@
-use Rattle.std.proofs.Common.{◌≡◌, ◌++◌, ◌∷◌, [], List, length, reverse, true, sym, ap, subst, ◌∙◌, arith, append_assoc, append-nil}
+use Rattle.std.proofs.Common.{◌≡◌, ◌++◌, ◌∷◌, [], List, length, reverse, true, sym, ap, subst, ◌∙◌, arith, append_assoc}
 use Rattle.std.specs.FinMap.{is_sorted}
 use Rattle.wse_path.specs.Order.{path_cmp}
 use Rattle.wse_path.specs.Path.{Path}
-use Rattle.wse_path.specs.PathMap.{set_value, value_at, update_all}
+use Rattle.wse_path.specs.PathMap.{set_value, value_at}
 use Rattle.wse_path.proofs.MergeLemmas.{next_greater, sorted_update, update_more}
 use Rattle.wse_path.proofs.merge.set_each.Goals as goal
 

@@ -1,4 +1,4 @@
-use Rattle.std.proofs.Common.{◌++◌, List, reverse, sym, ap, ◌∙◌}
+use Rattle.std.proofs.Common.{◌++◌, List, reverse, ap, ◌∙◌}
 use Rattle.wse_path.specs.Path.{Path}
 use Rattle.wse_path.specs.PathMap.{set_value}
 use Rattle.wse_path.proofs.MergeLemmas.{pushed, before_push, before_later}

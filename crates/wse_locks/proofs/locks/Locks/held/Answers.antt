@@ -1,9 +1,9 @@
-use Rattle.std.proofs.Common.{◌≡◌, ◌++◌, ◌∷◌, [], List, ℕ, ◌&&◌, None, IfOk, map, take, get_or, cond, sym, ap, subst, ◌∙◌, arith}
+use Rattle.std.proofs.Common.{◌≡◌, ◌++◌, ◌∷◌, [], List, ℕ, ◌&&◌, None, IfOk, map, take, cond, sym, ap, subst, ◌∙◌}
 use Rattle.std.proofs.lemmas.List.{take_all, take_more}
 use Rattle.std.specs.Ordering.{eq_by_cmp}
 use Rattle.wse_path.specs.Order.{path_cmp}
 use Rattle.wse_path.specs.Path.{Path}
-use Rattle.wse_locks.specs.Locks.{Holders, holder, is_held, is_named, held}
+use Rattle.wse_locks.specs.Locks.{holder, is_held, is_named}
 use Rattle.wse_locks.proofs.LockLemmas.{also_where, held_is, named_more}
 use Rattle.wse_locks.proofs.locks.Locks.held.Goals as goal
 

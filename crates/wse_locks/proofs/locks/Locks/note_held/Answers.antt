@@ -1,4 +1,4 @@
-use Rattle.std.proofs.Common.{◌≡◌, Some, cond, sym, ap, ◌∙◌, arith}
+use Rattle.std.proofs.Common.{sym, ap, ◌∙◌, arith}
 use Rattle.std.specs.FinMap.Entries.{find-put}
 use Rattle.std.proofs.lemmas.Bool.Decides.{nat_tests}
 use Rattle.wse_path.specs.Order.{path_cmp}

@@ -1,4 +1,3 @@
-use Rattle.std.proofs.Common.{◌∙◌, arith}
 use Rattle.wse_path.proofs.PathLemmas.{all_short, path_facts}
 use Rattle.wse_path.proofs.path.RelPath.text_len.Goals as goal
 

@@ -1,4 +1,4 @@
-use Rattle.std.proofs.Common.{◌≡◌, List, Some, get_or, ap, sym, ◌∙◌}
+use Rattle.std.proofs.Common.{List, Some, get_or, ap, sym, ◌∙◌}
 use Rattle.wse_path.specs.Path.{Path}
 use Rattle.wse_path.proofs.EntryLemmas.{find_at, find_gap}
 use Rattle.wse_path.proofs.PathOrder.{total}

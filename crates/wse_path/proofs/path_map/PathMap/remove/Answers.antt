@@ -1,6 +1,5 @@
-use Rattle.std.proofs.Common.{◌≡◌, List, true, is_some, ap, sym}
-use Rattle.wse_path.specs.Path.{Path}
-use Rattle.wse_path.specs.PathMap.{MapState, without}
+use Rattle.std.proofs.Common.{is_some, ap, sym}
+use Rattle.wse_path.specs.PathMap.{MapState}
 use Rattle.wse_path.proofs.EntryLemmas.{find_gap, found_place, remove_gap, sorted_remove}
 use Rattle.wse_path.proofs.MergeLemmas.{remove_is_without}
 use Rattle.wse_path.proofs.PathOrder.{total}

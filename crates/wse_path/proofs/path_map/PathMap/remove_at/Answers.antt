@@ -1,4 +1,4 @@
-use Rattle.std.proofs.Common.{◌≡◌, List, true, length, ap, arith}
+use Rattle.std.proofs.Common.{length, ap, arith}
 use Rattle.wse_path.specs.PathMap.{MapState}
 use Rattle.wse_path.proofs.EntryLemmas.{sorted_remove_at}
 use Rattle.wse_path.proofs.PathOrder.{total}

@@ -1,4 +1,4 @@
-use Rattle.std.proofs.Common.{◌≡◌, ◌++◌, ◌∷◌, [], List, length, sym, ap, ◌∙◌, arith, append_assoc}
+use Rattle.std.proofs.Common.{◌++◌, ◌∷◌, [], List, length, sym, ap, ◌∙◌, arith, append_assoc}
 use Rattle.wse_path.specs.Path.{Path}
 use Rattle.wse_path.specs.PathMap.{set_value, value_at}
 use Rattle.wse_path.proofs.MergeLemmas.{update_more}

@@ -1,4 +1,4 @@
-use Rattle.std.proofs.Common.{◌≡◌, sym, ap, subst, ◌∙◌}
+use Rattle.std.proofs.Common.{◌≡◌, sym, ap, subst}
 use Rattle.wse_path.specs.Tree.{Entries, TreeState, put_file, IsTree}
 use Rattle.wse_path.proofs.MergeLemmas.{either}
 use Rattle.wse_path.proofs.TreeLemmas.{tree_put}
