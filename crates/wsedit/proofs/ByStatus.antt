@@ -1,5 +1,5 @@
 -- What an end says by its status.
-use Rattle.std.proofs.Common.{◌≡◌, inl, inr, ℕ, List, Option, Some, refl, sym, ap, subst, ◌∙◌, arith}
+use Rattle.std.proofs.Common.{◌≡◌, inl, inr, ℕ, Option, Some, refl, sym, ap, subst, ◌∙◌, arith}
 use Rattle.wse_path.specs.declared.limits.Limits.{Limits}
 use Rattle.wse_path.specs.declared.limits.Hit.{Hit}
 use Rattle.wse_path.specs.declared.limits.Which.TheVariants.{Files}

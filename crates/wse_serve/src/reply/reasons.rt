@@ -1,51 +1,27 @@
 // Why an edit failed, in words.
-ghost use Rattle.std.specs.Prelude.{◌≡◌, ◌++◌, IfOk, map, string_bytes};
+ghost use Rattle.std.specs.Prelude.{◌≡◌, IfOk, map, string_bytes};
 ghost use Rattle.wse_path.specs.Path.{text_of};
-ghost use Rattle.wse_edits.specs.Words.{inside_text, overlap_text};
-ghost use Rattle.wse_resource.specs.Words.{operation_text};
+ghost use Rattle.wse_text.specs.Words.{not_text_text};
+ghost use Rattle.wse_edits.specs.Words.{refused_text};
 ghost use Rattle.wse_serve.specs.Reasons.{version_text, locked_text, reason_text};
 
 use crate::reply::limits::limit_text;
 use std::alloc::Global;
 use wse_apply::Reason;
+use wse_edits::EditsRefused;
 use wse_path::{Memory, RelPath};
-use wse_resource::OpRefused;
+use wse_text::NotText;
 
-/// The words, and the path's text behind them.
-fn with_path(alloc: Global, before: &str, path: &RelPath) -> Result<String, Memory>
-    ensures { IfOk result (λ text. string_bytes text ≡ before.now ++ text_of path.now) }
+fn edits_text(alloc: Global, why: EditsRefused) -> Result<String, Memory>
+    ensures { IfOk result (λ text. string_bytes text ≡ refused_text why) }
 {
-    let mut text = String::from_str(alloc, before)?;
-    text.push_str(path.text(alloc)?.as_str())?;
-    Ok(text)
+    Ok(format!(in alloc; "{why}")?)
 }
 
-fn operation_text(alloc: Global, why: &OpRefused) -> Result<String, Memory>
-    ensures { IfOk result (λ text. string_bytes text ≡ operation_text why.now) }
+fn not_text_text(alloc: Global, why: NotText) -> Result<String, Memory>
+    ensures { IfOk result (λ text. string_bytes text ≡ not_text_text why) }
 {
-    match why {
-        OpRefused::Exists => Ok(String::from_str(alloc, "exists")?),
-        OpRefused::IsFolder => Ok(String::from_str(alloc, "is a folder")?),
-        OpRefused::Beneath { file } => with_path(alloc, "beneath the file ", file),
-        OpRefused::NotFound => Ok(String::from_str(alloc, "not found")?),
-        OpRefused::NotEmpty => Ok(String::from_str(alloc, "folder needs recursive")?),
-        OpRefused::IntoItself => Ok(String::from_str(alloc, "into itself")?),
-        OpRefused::HoldsSource => Ok(String::from_str(alloc, "target holds the source")?),
-        OpRefused::PathLimit { from } => with_path(alloc, "path limit for ", from),
-        OpRefused::Memory => Ok(String::from_str(alloc, "out of memory")?),
-    }
-}
-
-fn inside_text(alloc: Global, edit: u64, char_start: usize) -> Result<String, Memory>
-    ensures { IfOk result (λ text. string_bytes text ≡ inside_text edit char_start) }
-{
-    Ok(format!(in alloc; "edit {edit}: inside the character at byte {char_start}")?)
-}
-
-fn overlap_text(alloc: Global, first: u64, second: u64) -> Result<String, Memory>
-    ensures { IfOk result (λ text. string_bytes text ≡ overlap_text first second) }
-{
-    Ok(format!(in alloc; "edits {first} and {second} overlap")?)
+    Ok(format!(in alloc; "{why}")?)
 }
 
 fn version_text(alloc: Global, have: u32, want: i64) -> Result<String, Memory>
@@ -60,7 +36,7 @@ fn texts(alloc: Global, files: &[RelPath]) -> Result<Vec<String>, Memory>
 {
     let mut texts = Vec::new(alloc);
     for file in files {
-        texts.push(String::from_str(alloc, file.text(alloc)?.as_str())?)?;
+        texts.push(file.text(alloc)?.into_string())?;
     }
     Ok(texts)
 }
@@ -77,10 +53,16 @@ pub fn reason_text(alloc: Global, why: &Reason) -> Result<String, Memory>
     ensures { IfOk result (λ text. string_bytes text ≡ reason_text why.now) }
 {
     match why {
-        Reason::Op(why) => operation_text(alloc, why),
-        Reason::NotText { at } => Ok(format!(in alloc; "not UTF-8 at byte {at}")?),
-        Reason::Inside { edit, char_start } => inside_text(alloc, *edit, *char_start),
-        Reason::Overlap { first, second } => overlap_text(alloc, *first, *second),
+        Reason::Op(why) => Ok(format!(in alloc; "{why}")?),
+        Reason::NotText { at } => not_text_text(alloc, NotText { at: *at }),
+        Reason::Inside { edit, char_start } => {
+            let (edit, char_start) = (*edit, *char_start);
+            edits_text(alloc, EditsRefused::Inside { edit, char_start })
+        }
+        Reason::Overlap { first, second } => {
+            let (first, second) = (*first, *second);
+            edits_text(alloc, EditsRefused::Overlap { first, second })
+        }
         Reason::Version { have, want } => version_text(alloc, *have, *want),
         Reason::Locked { files } => locked_text(alloc, files.as_slice()),
         Reason::Limit(hit) => limit_text(alloc, *hit),

@@ -1,43 +1,13 @@
 // Why a line is refused, as JSON.
-ghost use Rattle.std.specs.Prelude.{◌≡◌, IfOk, string_bytes};
+ghost use Rattle.std.specs.Prelude.{◌≡◌, IfOk};
 ghost use Rattle.serde_json.specs.View.{view};
-ghost use Rattle.wse_path.specs.Path.{words_of};
-ghost use Rattle.wse_uri.specs.Words.{uri_text};
 ghost use Rattle.wse_serve.specs.Refusals.{refused_data, field_data, uri_data, annotation_data, too_long_data, shape_data};
 
 use serde_json::{Value, json};
 use std::alloc::Global;
 use wse_json::Shape;
-use wse_path::{Memory, PathRefused};
+use wse_path::Memory;
 use wse_uri::UriRefused;
-
-fn path_text(alloc: Global, why: PathRefused) -> Result<String, Memory>
-    ensures { IfOk result (λ text. string_bytes text ≡ words_of why) }
-{
-    match why {
-        PathRefused::Empty => Ok(String::from_str(alloc, "no segment")?),
-        PathRefused::TooDeep { depth } => Ok(format!(in alloc; "{depth} segments")?),
-        PathRefused::Segment { index } => Ok(format!(in alloc; "segment {index} is not a name")?),
-        PathRefused::TooLong { bytes } => Ok(format!(in alloc; "{bytes} bytes")?),
-    }
-}
-
-fn uri_text(alloc: Global, why: UriRefused) -> Result<String, Memory>
-    ensures { IfOk result (λ text. string_bytes text ≡ uri_text why) }
-{
-    match why {
-        UriRefused::NotUrl => Ok(String::from_str(alloc, "not a URL")?),
-        UriRefused::NotFile => Ok(String::from_str(alloc, "not a file URI")?),
-        UriRefused::HasHost => Ok(String::from_str(alloc, "has a host")?),
-        UriRefused::HasQuery => Ok(String::from_str(alloc, "has a query")?),
-        UriRefused::HasFragment => Ok(String::from_str(alloc, "has a fragment")?),
-        UriRefused::OutsideRoot => Ok(String::from_str(alloc, "outside the root")?),
-        UriRefused::IsRoot => Ok(String::from_str(alloc, "is the root")?),
-        UriRefused::Escape { segment } => Ok(format!(in alloc; "segment {segment} is not UTF-8")?),
-        UriRefused::Path(why) => path_text(alloc, why),
-        UriRefused::Memory => Ok(String::from_str(alloc, "out of memory")?),
-    }
-}
 
 /// A refusal that tells nothing beside its cause.
 pub fn refused_value(alloc: Global, n: u64, why: &str) -> Result<Value, Memory>
@@ -57,7 +27,7 @@ fn field_value(alloc: Global, n: u64, pointer: &str) -> Result<Value, Memory>
 fn uri_value(alloc: Global, n: u64, pointer: &str, why: UriRefused) -> Result<Value, Memory>
     ensures { IfOk result (λ value. view value ≡ uri_data n pointer.now why) }
 {
-    let why = uri_text(alloc, why)?;
+    let why = format!(in alloc; "{why}")?;
     let value = json!(in alloc; {"at": pointer, "n": n, "refused": "uri", "why": why})?;
     Ok(value)
 }

@@ -1,6 +1,5 @@
-use Rattle.std.proofs.Common.{◌≡◌, Some, refl, sym, ap, subst, ◌∙◌}
+use Rattle.std.proofs.Common.{◌≡◌, Some, subst}
 use Rattle.wse_disk.specs.Told.{WhereTold, files_of}
-use Rattle.wse_path.specs.Tree.{Entries}
 use Rattle.wse_serve.specs.Scene.{disk_at}
 use Rattle.wse_serve.specs.Start.{start_hit}
 use Rattle.wse_serve.specs.declared.serving.ServeEnd.TheVariants.{Disk}

@@ -1,6 +1,6 @@
 use Rattle.std.proofs.Common.{sym, ap, ◌∙◌}
 use Rattle.wsedit.specs.Status.{line_of, line_for}
-use Rattle.wsedit.proofs.ByStatus.{named, named_first, line_by_code, is_status}
+use Rattle.wsedit.proofs.ByStatus.{named, named_first, line_by_code}
 use Rattle.wsedit.proofs.StatusLemmas.{told_or_rose}
 use Rattle.wsedit.proofs.program.run_within.Goals as goal
 

@@ -1,7 +1,6 @@
 use Rattle.std.proofs.Common.{refl, ◌∙◌, arith}
 use Rattle.wse_disk.specs.Told.{files_of}
-use Rattle.wse_serve.specs.Scene.{disk_at, scene}
-use Rattle.wse_serve.specs.Start.{RunsEdits}
+use Rattle.wse_serve.specs.Scene.{disk_at}
 use Rattle.wse_serve.specs.declared.serving.ServeEnd.TheVariants.{Memory}
 use Rattle.wse_serve.proofs.Starting.{first_state, first_start, edits_unread}
 use Rattle.wsedit.proofs.ByStatus.{by_code, same_root}
