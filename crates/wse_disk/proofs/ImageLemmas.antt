@@ -14,9 +14,9 @@ use Rattle.wse_path.proofs.EntryLemmas.{to_so}
 use Rattle.wse_disk.specs.declared.area.Area.{Area}
 use Rattle.wse_disk.specs.Reading.{Reading, Write, Stores, Erases, Patches, area_of, with_area, is_same_area, names, is_in, covers}
 use Rattle.wse_disk.specs.Image.{IsAreaImage, IsImage, IsTorn}
-use Rattle.wse_disk.specs.Standing.{Standing, IsImageOf, with_write, Writes, Syncs}
+use Rattle.wse_disk.specs.Standing.{Standing, IsImageOf, with_write, WriteLeaves, SyncLeaves}
 use Rattle.wse_disk.specs.Told.{MayLeave, IsAtRest, IsSynced, ReadsAnImage, reading_of}
-use Rattle.wse_disk.specs.Calls.{Told, Wrote, Synced}
+use Rattle.wse_disk.specs.Calls.{Told, TellsWrite, TellsSync}
 use Rattle.wse_disk.proofs.AreaLemmas.{area_itself, area_other, files_stay, area_is, same_reading}
 
 any_front : {X : Type 0} (p : X → Bool) (ws : List X) (w : X) → list_any p (ws ++ w ∷ []) ≡ false → list_any p ws ≡ false
@@ -120,13 +120,13 @@ only_one reading tree c image = same_reading c reading
     (λ a. (image.areas a).same refl)
 
 -- Whether a write failed or not, its images are those of one write more.
-writes_images : {T E : Type 0} (w : Write) (result : Result T E) (s u : Standing) → Writes w result s u → (c : Reading) → IsImageOf u.pending c → IsImageOf (with_write w s.pending) c
+writes_images : {T E : Type 0} (w : Write) (result : Result T E) (s u : Standing) → WriteLeaves w result s u → (c : Reading) → IsImageOf u.pending c → IsImageOf (with_write w s.pending) c
 writes_images w (Ok x) s u done c may = subst (λ (v : Standing). IsImageOf v.pending c) done may
 writes_images w (Err e) s u (inl same) c may = more_images s.pending.base s.pending.writes w c (subst (λ (v : Standing). IsImageOf v.pending c) same may)
 writes_images w (Err e) s u (inr counts) c may = subst (λ (v : Standing). IsImageOf v.pending c) counts.1 may
 
 -- Whether a sync failed or not, no image is new.
-syncs_images : {T E : Type 0} (result : Result T E) (s u : Standing) → IsImageOf s.pending s.reading → Syncs result s u → (c : Reading) → IsImageOf u.pending c → IsImageOf s.pending c
+syncs_images : {T E : Type 0} (result : Result T E) (s u : Standing) → IsImageOf s.pending s.reading → SyncLeaves result s u → (c : Reading) → IsImageOf u.pending c → IsImageOf s.pending c
 syncs_images (Ok x) s u stays done c may = subst (IsImageOf s.pending) (sym (only_one s.reading stays.tree c (subst (λ (v : Standing). IsImageOf v.pending c) done may))) stays
 syncs_images (Err e) s u stays (inl same) c may = subst (λ (v : Standing). IsImageOf v.pending c) same may
 syncs_images (Err e) s u stays (inr same) c may = subst (λ (v : Standing). IsImageOf v.pending c) same may
@@ -136,20 +136,20 @@ pub torn_itself : (a : Area) (place count : ℕ) (r : Reading) → IsTorn a plac
 torn_itself a place count r = record { files = refl; others = λ b other. refl; no_shorter = omega arith; kept = λ i lt out. refl }
 
 -- What a crash may leave after one write to an area, where nothing was pending.
-pub torn_after : {T E : Type 0} (a : Area) (place : ℕ) (bytes : List ℕ) (old new : Option Standing) (result : Result T E) → ReadsAnImage old → IsAtRest old → Wrote (Patches a place bytes) old new result
+pub torn_after : {T E : Type 0} (a : Area) (place : ℕ) (bytes : List ℕ) (old new : Option Standing) (result : Result T E) → ReadsAnImage old → IsAtRest old → TellsWrite (Patches a place bytes) old new result
     → (c : Reading) → MayLeave new c → IsTorn a place (length bytes) (reading_of old) c
 torn_after a place bytes old None result stays rests wrote c may = absurd may
 torn_after a place bytes None (Some u) result stays rests wrote c may = absurd wrote
 torn_after a place bytes (Some s) (Some u) result stays rests wrote c may = torn s a place bytes stays rests c (writes_images (Patches a place bytes) result s u wrote c may)
 
 -- After a sync, whether it failed or not, no image is new.
-pub synced_images : {T E : Type 0} (old new : Option Standing) (result : Result T E) → ReadsAnImage old → Synced old new result → (c : Reading) → MayLeave new c → MayLeave old c
+pub synced_images : {T E : Type 0} (old new : Option Standing) (result : Result T E) → ReadsAnImage old → TellsSync old new result → (c : Reading) → MayLeave new c → MayLeave old c
 synced_images old None result stays synced c may = absurd may
 synced_images None (Some u) result stays synced c may = absurd synced
 synced_images (Some s) (Some u) result stays synced c may = syncs_images result s u stays synced c may
 
 -- After a sync that succeeded no write is pending.
-pub is_synced : {T E : Type 0} (old new : Option Standing) (result : Result T E) → Synced old new result → OnOk result (IsSynced new)
+pub is_synced : {T E : Type 0} (old new : Option Standing) (result : Result T E) → TellsSync old new result → OnOk result (IsSynced new)
 is_synced old None (Ok x) synced = tt
 is_synced None (Some u) (Ok x) synced = absurd synced
 is_synced (Some s) (Some u) (Ok x) synced = (ap (λ (v : Standing). v.pending.base) synced ∙ ap (λ (v : Standing). v.reading) (sym synced), ap (λ (v : Standing). v.pending.writes) synced)
@@ -162,7 +162,7 @@ at_rest (Some s) stays synced c may =
     only_one s.reading stays.tree c (subst (λ (ws : List Write). IsImage s.reading ws c) synced.1 (subst (λ (r : Reading). IsImage r s.pending.writes c) synced.0 may))
 
 -- A sync leaves what is read.
-pub synced_reads : {T E : Type 0} (old new : Option Standing) (result : Result T E) → Synced old new result → Told (λ s u. u.reading ≡ s.reading) old new
+pub synced_reads : {T E : Type 0} (old new : Option Standing) (result : Result T E) → TellsSync old new result → Told (λ s u. u.reading ≡ s.reading) old new
 synced_reads None None result synced = tt
 synced_reads None (Some u) result synced = absurd synced
 synced_reads (Some s) None result synced = absurd synced
@@ -171,7 +171,7 @@ synced_reads (Some s) (Some u) (Err e) (inl same) = ap (λ (v : Standing). v.rea
 synced_reads (Some s) (Some u) (Err e) (inr same) = ap (λ (v : Standing). v.reading) same
 
 -- After a sync that succeeded nothing is pending.
-pub synced_rests : {T E : Type 0} (old new : Option Standing) (result : Result T E) → ReadsAnImage old → Synced old new result → OnOk result (IsAtRest new)
+pub synced_rests : {T E : Type 0} (old new : Option Standing) (result : Result T E) → ReadsAnImage old → TellsSync old new result → OnOk result (IsAtRest new)
 synced_rests old None (Ok x) stays synced = λ c may. absurd may
 synced_rests None (Some u) (Ok x) stays synced = absurd synced
 synced_rests (Some s) (Some u) (Ok x) stays synced = λ c may. only_one s.reading stays.tree c (subst (λ (v : Standing). IsImageOf v.pending c) synced may) ∙ ap (λ (v : Standing). v.reading) (sym synced)

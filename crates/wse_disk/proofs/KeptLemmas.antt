@@ -11,10 +11,10 @@ use Rattle.wse_path.specs.declared.change.Change.{Change}
 use Rattle.wse_path.proofs.TreeLemmas.{same_path, content_put_other}
 use Rattle.wse_path.proofs.ChangeLemmas.{content_remove}
 use Rattle.wse_disk.specs.declared.area.Area.{Area}
-use Rattle.wse_disk.specs.Reading.{Reading, Write, Stores, Erases, Patches, area_of, written}
-use Rattle.wse_disk.specs.Standing.{Standing, Writes}
+use Rattle.wse_disk.specs.Reading.{Reading, Write, Stores, Erases, Patches, area_of, applied}
+use Rattle.wse_disk.specs.Standing.{Standing, WriteLeaves}
 use Rattle.wse_disk.specs.Told.{ReadsAnImage}
-use Rattle.wse_disk.specs.Calls.{Told, Wrote, Synced}
+use Rattle.wse_disk.specs.Calls.{Told, TellsWrite, TellsSync}
 use Rattle.wse_disk.specs.Changes.{ChangesOnly, HasChangedOnly, AllOf}
 use Rattle.wse_disk.proofs.AreaLemmas.{areas_stay}
 use Rattle.wse_disk.proofs.ImageLemmas.{synced_reads}
@@ -41,14 +41,14 @@ one_differs cs p r m n one tree others areas only = record {
   areas = λ a. areas a ∙ only.areas a;
 }
 
-done_whole : (cs : List Change) (w : Write) (r m : Reading) → AllOf cs (w ∷ []) → IsTree (written w m).files → ChangesOnly cs r m → ChangesOnly cs r (written w m)
+done_whole : (cs : List Change) (w : Write) (r m : Reading) → AllOf cs (w ∷ []) → IsTree (applied w m).files → ChangesOnly cs r m → ChangesOnly cs r (applied w m)
 done_whole cs (Stores p bytes) r m one tree only =
-    one_differs cs p r m (written (Stores p bytes) m) one.0 tree (λ q other. content_put_other m.files p bytes q other) (λ a. areas_stay a (put_file m.files p bytes) m) only
+    one_differs cs p r m (applied (Stores p bytes) m) one.0 tree (λ q other. content_put_other m.files p bytes q other) (λ a. areas_stay a (put_file m.files p bytes) m) only
 done_whole cs (Erases p) r m one tree only =
-    one_differs cs p r m (written (Erases p) m) one.0 tree (λ q other. content_remove_other m.files p q other) (λ a. areas_stay a (remove_file m.files p) m) only
+    one_differs cs p r m (applied (Erases p) m) one.0 tree (λ q other. content_remove_other m.files p q other) (λ a. areas_stay a (remove_file m.files p) m) only
 done_whole cs (Patches a place bytes) r m one tree only = absurd one
 
-writes_kept : {T E : Type 0} (cs : List Change) (w : Write) (result : Result T E) (r : Reading) (t u : Standing) → AllOf cs (w ∷ []) → IsTree u.reading.files → Writes w result t u → ChangesOnly cs r t.reading → ChangesOnly cs r u.reading
+writes_kept : {T E : Type 0} (cs : List Change) (w : Write) (result : Result T E) (r : Reading) (t u : Standing) → AllOf cs (w ∷ []) → IsTree u.reading.files → WriteLeaves w result t u → ChangesOnly cs r t.reading → ChangesOnly cs r u.reading
 writes_kept cs w (Ok x) r t u one tree done only =
     let is = ap (λ (v : Standing). v.reading) done in
     subst (λ (n : Reading). ChangesOnly cs r n) (sym is) (done_whole cs w r t.reading one (subst (λ (n : Reading). IsTree n.files) is tree) only)
@@ -60,7 +60,7 @@ writes_kept cs (Erases p) (Err e) r t u one tree (inr counts) only =
 writes_kept cs (Patches a place bytes) (Err e) r t u one tree (inr counts) only = absurd one
 
 -- One write more, however it ends.
-pub one_kept : {T E : Type 0} (cs : List Change) (w : Write) (start now new : Option Standing) (result : Result T E) → AllOf cs (w ∷ []) → ReadsAnImage new → Wrote w now new result → HasChangedOnly cs start now → HasChangedOnly cs start new
+pub one_kept : {T E : Type 0} (cs : List Change) (w : Write) (start now new : Option Standing) (result : Result T E) → AllOf cs (w ∷ []) → ReadsAnImage new → TellsWrite w now new result → HasChangedOnly cs start now → HasChangedOnly cs start new
 one_kept cs w None None None result one image wrote kept = tt
 one_kept cs w None None (Some u) result one image wrote kept = absurd wrote
 one_kept cs w None (Some t) new result one image wrote kept = absurd kept
@@ -74,7 +74,7 @@ none_kept cs None image = tt
 none_kept cs (Some s) image = record { files = record { tree = image.tree; others = λ q none. refl }; areas = λ a. refl }
 
 -- A sync leaves what is read.
-pub sync_kept : {T E : Type 0} (cs : List Change) (start now new : Option Standing) (result : Result T E) → Synced now new result → HasChangedOnly cs start now → HasChangedOnly cs start new
+pub sync_kept : {T E : Type 0} (cs : List Change) (start now new : Option Standing) (result : Result T E) → TellsSync now new result → HasChangedOnly cs start now → HasChangedOnly cs start new
 sync_kept cs start now new result synced kept = go start now new kept (synced_reads now new result synced)
   where
     go : (start now new : Option Standing) → HasChangedOnly cs start now → Told (λ s t. t.reading ≡ s.reading) now new → HasChangedOnly cs start new

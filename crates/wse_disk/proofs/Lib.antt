@@ -10,5 +10,6 @@ mod ReplayLemmas
 mod SoundLemmas
 mod PickLemmas
 pub mod WritingLemmas
+pub mod OrderLemmas
 pub mod KeptLemmas
 pub mod ToldLemmas

@@ -3,14 +3,14 @@ use Rattle.std.proofs.Common.{◌≡◌, ◌⊎◌, inl, inr, ⊎_elim, ℕ, ◌
 use Rattle.std.specs.Prelude.{Result, Ok, Err}
 use Rattle.std.proofs.lemmas.List.{drop-append-le, drop_all}
 use Rattle.wse_disk.specs.Reading.{Reading, Write}
-use Rattle.wse_disk.specs.Standing.{Pending, Standing, IsImageOf, IsOfOne, Writes, Syncs}
+use Rattle.wse_disk.specs.Standing.{Pending, Standing, IsImageOf, IsOfOne, WriteLeaves, SyncLeaves}
 use Rattle.wse_disk.specs.Told.{MayLeave, LeftSince, moment_told}
-use Rattle.wse_disk.specs.Calls.{Told, Wrote, Synced}
+use Rattle.wse_disk.specs.Calls.{Told, TellsWrite, TellsSync}
 use Rattle.wse_disk.specs.LeavesOnly.{LeavesOnly}
 
 -- No moment passes, or one.
-abbrev pub GoesOn : Standing → Standing → Type 0
-GoesOn old new = (new ≡ old) ⊎ (new.past ≡ old.past ++ old.pending ∷ [])
+abbrev pub PassesOneMoment : Standing → Standing → Type 0
+PassesOneMoment old new = (new ≡ old) ⊎ (new.past ≡ old.past ++ old.pending ∷ [])
 
 of_last : (ps : List Pending) (p : Pending) (c : Reading) → IsOfOne (ps ++ p ∷ []) c → IsImageOf p c ⊎ IsOfOne ps c
 of_last [] p c (inl is) = inl is
@@ -33,29 +33,29 @@ only_now s c (inl now) = now
 only_now s c (inr before) = absurd (subst (λ (ps : List Pending). IsOfOne ps c) (drop_all (length s.past) s.past (omega arith)) before)
 
 -- What might have been left before, or may be left now.
-nothing_else : (old new : Standing) → GoesOn old new → (t : ℕ) (c : Reading) → t ≤ length old.past → LeftSince (Some new) t c → LeftSince (Some old) t c ⊎ IsImageOf new.pending c
+nothing_else : (old new : Standing) → PassesOneMoment old new → (t : ℕ) (c : Reading) → t ≤ length old.past → LeftSince (Some new) t c → LeftSince (Some old) t c ⊎ IsImageOf new.pending c
 nothing_else old new goes t c le (inl now) = inr now
 nothing_else old new (inl same) t c le (inr before) = inl (inr (subst (λ (s : Standing). IsOfOne (drop t s.past) c) same before))
 nothing_else old new (inr past) t c le (inr before) = inl (of_last (drop t old.past) old.pending c (subst (λ (ps : List Pending). IsOfOne ps c) (ap (drop t) past ∙ drop-append-le t old.past (old.pending ∷ []) le) before))
 
-later : (old new : Standing) → GoesOn old new → length old.past ≤ length new.past
+later : (old new : Standing) → PassesOneMoment old new → length old.past ≤ length new.past
 later old new (inl same) = omega (arith, ap (λ (s : Standing). length s.past) same)
 later old new (inr past) = omega (arith, ap length past, length-append old.past (old.pending ∷ []))
 
-keeps : (old new : Standing) → GoesOn old new → (t : ℕ) (c : Reading) → t ≤ length old.past → LeftSince (Some old) t c → LeftSince (Some new) t c
+keeps : (old new : Standing) → PassesOneMoment old new → (t : ℕ) (c : Reading) → t ≤ length old.past → LeftSince (Some old) t c → LeftSince (Some new) t c
 keeps old new (inl same) t c le left = subst (λ (s : Standing). LeftSince (Some s) t c) (sym same) left
 keeps old new (inr past) t c le left =
     let is : drop t new.past ≡ drop t old.past ++ old.pending ∷ [] = ap (drop t) past ∙ drop-append-le t old.past (old.pending ∷ []) le in
     inr (subst (λ (ps : List Pending). IsOfOne ps c) (sym is) (⊎_elim (λ now. of_new (drop t old.past) old.pending c now) (λ one. of_more (drop t old.past) old.pending c one) left))
 
 -- What might have been left still might.
-pub keeps_left : (old new : Option Standing) → Told GoesOn old new → (t : ℕ) (c : Reading) → t ≤ moment_told old → LeftSince old t c → LeftSince new t c
+pub keeps_left : (old new : Option Standing) → Told PassesOneMoment old new → (t : ℕ) (c : Reading) → t ≤ moment_told old → LeftSince old t c → LeftSince new t c
 keeps_left None new goes t c le left = absurd left
 keeps_left (Some s) None goes t c le left = absurd goes
 keeps_left (Some s) (Some u) goes t c le left = keeps s u goes t c le left
 
 -- Nothing else might be left but what may be left since the call.
-pub nothing_new : (old new : Option Standing) → Told GoesOn old new → (t : ℕ) (c : Reading) → t ≤ moment_told old → LeftSince new t c → LeftSince old t c ⊎ LeftSince new (moment_told old) c
+pub nothing_new : (old new : Option Standing) → Told PassesOneMoment old new → (t : ℕ) (c : Reading) → t ≤ moment_told old → LeftSince new t c → LeftSince old t c ⊎ LeftSince new (moment_told old) c
 nothing_new None None goes t c le left = absurd left
 nothing_new None (Some u) goes t c le left = absurd goes
 nothing_new (Some s) None goes t c le left = absurd goes
@@ -67,7 +67,7 @@ left_now None t c may = absurd may
 left_now (Some s) t c may = inl may
 
 -- One call, where what a crash may leave before and after it has the property.
-pub one_call : (old new : Option Standing) (P : Reading → Type 0) → Told GoesOn old new → ((c : Reading) → MayLeave old c → P c) → ((c : Reading) → MayLeave new c → P c) → LeavesOnly old new P
+pub one_call : (old new : Option Standing) (P : Reading → Type 0) → Told PassesOneMoment old new → ((c : Reading) → MayLeave old c → P c) → ((c : Reading) → MayLeave new c → P c) → LeavesOnly old new P
 one_call None None P goes was is = record { later = omega arith; each = λ c left. absurd left; before = λ t c le left. absurd left }
 one_call None (Some u) P goes was is = absurd goes
 one_call (Some s) None P goes was is = absurd goes
@@ -77,7 +77,7 @@ one_call (Some s) (Some u) P goes was is = record {
   before = λ t c le left. ⊎_elim (λ past. inl past) (λ here. inr (is c here)) (nothing_else s u goes t c le left);
 }
 
-stays_itself : (told : Option Standing) → Told GoesOn told told
+stays_itself : (told : Option Standing) → Told PassesOneMoment told told
 stays_itself None = tt
 stays_itself (Some s) = inl (λ i. s)
 
@@ -101,24 +101,24 @@ weaker old new P Q f all = record {
   before = λ t c le left. ⊎_elim (λ past. inl past) (λ p. inr (f c p)) (all.before t c le left);
 }
 
-writes_goes : {T E : Type 0} (w : Write) (result : Result T E) (s u : Standing) → Writes w result s u → GoesOn s u
+writes_goes : {T E : Type 0} (w : Write) (result : Result T E) (s u : Standing) → WriteLeaves w result s u → PassesOneMoment s u
 writes_goes w (Ok x) s u done = inr (ap (λ (v : Standing). v.past) done)
 writes_goes w (Err e) s u (inl same) = inl same
 writes_goes w (Err e) s u (inr counts) = inr (ap (λ (v : Standing). v.past) counts.1)
 
-syncs_goes : {T E : Type 0} (result : Result T E) (s u : Standing) → Syncs result s u → GoesOn s u
+syncs_goes : {T E : Type 0} (result : Result T E) (s u : Standing) → SyncLeaves result s u → PassesOneMoment s u
 syncs_goes (Ok x) s u done = inr (ap (λ (v : Standing). v.past) done)
 syncs_goes (Err e) s u (inl same) = inl same
 syncs_goes (Err e) s u (inr passed) = inr (ap (λ (v : Standing). v.past) passed)
 
 -- A write, or a sync, goes on by a moment or stays.
-pub wrote_goes : {T E : Type 0} (w : Write) (old new : Option Standing) (result : Result T E) → Wrote w old new result → Told GoesOn old new
+pub wrote_goes : {T E : Type 0} (w : Write) (old new : Option Standing) (result : Result T E) → TellsWrite w old new result → Told PassesOneMoment old new
 wrote_goes w None None result wrote = tt
 wrote_goes w None (Some u) result wrote = absurd wrote
 wrote_goes w (Some s) None result wrote = absurd wrote
 wrote_goes w (Some s) (Some u) result wrote = writes_goes w result s u wrote
 
-pub synced_goes : {T E : Type 0} (old new : Option Standing) (result : Result T E) → Synced old new result → Told GoesOn old new
+pub synced_goes : {T E : Type 0} (old new : Option Standing) (result : Result T E) → TellsSync old new result → Told PassesOneMoment old new
 synced_goes None None result synced = tt
 synced_goes None (Some u) result synced = absurd synced
 synced_goes (Some s) None result synced = absurd synced

@@ -11,7 +11,7 @@ use Rattle.wse_path.proofs.ChangeLemmas.{content_put, content_remove}
 use Rattle.wse_disk.specs.declared.area.Area.{Area}
 use Rattle.wse_disk.specs.declared.fate.Fate.{Fate}
 use Rattle.wse_disk.specs.declared.fate.Fate.TheVariants.{Lost, Kept, Blank}
-use Rattle.wse_disk.specs.Reading.{Reading, Write, Stores, Erases, Patches, area_of, with_area, is_same_area, written, names, is_in, covers}
+use Rattle.wse_disk.specs.Reading.{Reading, Write, Stores, Erases, Patches, area_of, with_area, is_same_area, applied, names, is_in, covers}
 use Rattle.wse_disk.specs.Image.{IsAreaImage, IsImage}
 use Rattle.wse_disk.specs.Replay.{laid, laid_bytes, laid_all}
 use Rattle.wse_disk.specs.Chosen.{fate, left_by, left_from}
@@ -63,7 +63,7 @@ laid_at place bytes old i lt (inr above) =
     ∙ ap (λ (k : ℕ). get_or old k 0) back
 
 -- Without a gap it is plain.
-pub laid_plain : (w : Write) (r : Reading) → Fits w r → laid w r ≡ written w r
+pub laid_plain : (w : Write) (r : Reading) → Fits w r → laid w r ≡ applied w r
 laid_plain (Stores p bytes) r fits = refl
 laid_plain (Erases p) r fits = refl
 laid_plain (Patches a place bytes) r fits = ap (λ (l : List ℕ). with_area a l r) (laid_is_patched place bytes (area_of a r) fits)

@@ -8,9 +8,9 @@ use Rattle.wse_path.specs.Tree.{Entries, IsTree}
 use Rattle.wse_disk.specs.Reading.{Reading, Write}
 use Rattle.wse_disk.specs.Image.{DiffersBy}
 use Rattle.wse_disk.specs.Reading.Write.{Stores, Erases, Patches}
-use Rattle.wse_disk.specs.Standing.{Standing, Pending, IsImageOf, fresh, next, with_write, Writes, Syncs}
+use Rattle.wse_disk.specs.Standing.{Standing, Pending, IsImageOf, fresh, next, with_write, WriteLeaves, SyncLeaves}
 use Rattle.wse_disk.specs.Replay.{held, laid, after_write, stands_after, replay, pending_at, first_of}
-use Rattle.wse_disk.specs.MemState.{MemState, IsSound, IsHeld, Notes, standing}
+use Rattle.wse_disk.specs.MemState.{MemState, KeepsImages, IsHeld, Notes, standing}
 use Rattle.wse_disk.specs.CallCounts.{CallState, next_fails, finished}
 use Rattle.wse_disk.specs.declared.areas.Areas.{Areas}
 use Rattle.wse_disk.specs.declared.call.Call.{Call}
@@ -21,7 +21,7 @@ use Rattle.wse_disk.proofs.NearLemmas.{Fits, laid_plain, written_image, base_ima
 use Rattle.wse_disk.proofs.ReplayLemmas.{replay-append, past_after}
 
 -- Before the first call.
-pub sound_first : (r : Reading) → IsTree r.files → IsSound r []
+pub sound_first : (r : Reading) → IsTree r.files → KeepsImages r []
 sound_first r tree = record { stays = base_image r [] tree; bases = λ t. bases t; counted = refl }
   where
     bases : (t : ℕ) → IsTree (pending_at (fresh r) t).base.files
@@ -68,7 +68,7 @@ sync_sound false s sound = record {
   bases = bases_next s s.reading (record { base = s.reading; writes = [] }) sound.stays.tree sound.bases;
 }
 
-with_call : (first : Reading) (calls : List Call) (call : Call) → IsSound first calls → StaysSound (stands_after (replay (fresh first) calls) call) → IsSound first (calls ++ call ∷ [])
+with_call : (first : Reading) (calls : List Call) (call : Call) → KeepsImages first calls → StaysSound (stands_after (replay (fresh first) calls) call) → KeepsImages first (calls ++ call ∷ [])
 with_call first calls call sound after =
     let s = replay (fresh first) calls in
     let is : replay (fresh first) (calls ++ call ∷ []) ≡ stands_after s call = replay-append (fresh first) calls (call ∷ []) in
@@ -80,19 +80,19 @@ with_call first calls call sound after =
     }
 
 -- After one write more.
-pub sound_write : (first : Reading) (calls : List Call) (call : Call) (w : Write) (failed : Bool) → ((s : Standing) → stands_after s call ≡ after_write w failed s) → Fits w (replay (fresh first) calls).reading → IsSound first calls
-    → IsSound first (calls ++ call ∷ [])
+pub sound_write : (first : Reading) (calls : List Call) (call : Call) (w : Write) (failed : Bool) → ((s : Standing) → stands_after s call ≡ after_write w failed s) → Fits w (replay (fresh first) calls).reading → KeepsImages first calls
+    → KeepsImages first (calls ++ call ∷ [])
 sound_write first calls call w failed is_write fits sound =
     let s = replay (fresh first) calls in
     with_call first calls call sound (subst StaysSound (sym (is_write s)) (after_sound w failed s fits (record { stays = sound.stays; bases = sound.bases })))
 
 -- After one sync more.
-pub sound_sync : (first : Reading) (calls : List Call) (failed : Bool) → IsSound first calls → IsSound first (calls ++ Sync failed ∷ [])
+pub sound_sync : (first : Reading) (calls : List Call) (failed : Bool) → KeepsImages first calls → KeepsImages first (calls ++ Sync failed ∷ [])
 sound_sync first calls failed sound = with_call first calls (Sync failed) sound (sync_sound failed (replay (fresh first) calls) (record { stays = sound.stays; bases = sound.bases }))
 
 -- What is kept after a call, or after it found no memory.
 pub record Kept {C : Type 0} (before : Reading) (first : Option Draft) (now : Reading) (calls : List Call) (to_make : List C) : Type 0 where
-  pub sound : IsSound (first_of first now) calls
+  pub sound : KeepsImages (first_of first now) calls
   pub held : IsHeld first now calls to_make
   pub same : first_of first now ≡ before
 
@@ -116,7 +116,7 @@ on_none (Err e) now = refl
 module _ (before : Reading) where
   pub settled : {C : Type 0} (first : Option Draft) (now now' : Reading) (calls : List Call) (to_make to_make' : List C) → now' ≡ now → to_make' ≡ [] → Kept before first now calls to_make → Kept before first now' calls to_make'
   settled first now now' calls to_make to_make' same none kept = record {
-    sound = subst (λ (r : Reading). IsSound (first_of first r) calls) (sym same) kept.sound;
+    sound = subst (λ (r : Reading). KeepsImages (first_of first r) calls) (sym same) kept.sound;
     held = record {
       same = subst (λ (r : Reading). r ≡ (replay (fresh (first_of first r)) calls).reading) (sym same) kept.held.same;
       begun = λ e. ((kept.held.begun e).0, none);
@@ -128,7 +128,7 @@ module _ (before : Reading) where
   pub parted : {C : Type 0} (first first' : Option Draft) (now now' : Reading) (calls : List Call) (to_make to_make' : List C) → now' ≡ now → first_of first' now' ≡ first_of first now → (first' ≡ None → (first ≡ None) × (to_make' ≡ [])) → Kept before first now calls to_make
       → Kept before first' now' calls to_make'
   parted first first' now now' calls to_make to_make' same kept_first made kept = record {
-    sound = subst (λ (r : Reading). IsSound r calls) (sym kept_first) kept.sound;
+    sound = subst (λ (r : Reading). KeepsImages r calls) (sym kept_first) kept.sound;
     held = record {
       same = same ∙ kept.held.same ∙ ap (λ (r : Reading). (replay (fresh r) calls).reading) (sym kept_first);
       begun = λ e. ((kept.held.begun (made e).0).0, (made e).1);
@@ -137,12 +137,12 @@ module _ (before : Reading) where
   }
 
   pub noted : {C T E : Type 0} (r : Result T E) (call : Call) (first : Option Draft) (now now' : Reading) (calls calls' : List Call) (to_make to_make' : List C) → (first ≡ None → ⊥) → Kept before first now calls to_make
-      → IsSound (first_of first now) (calls ++ call ∷ []) → OnOk r (now' ≡ (stands_after (replay (fresh (first_of first now)) calls) call).reading) → OnErr r (now' ≡ now)
+      → KeepsImages (first_of first now) (calls ++ call ∷ []) → OnOk r (now' ≡ (stands_after (replay (fresh (first_of first now)) calls) call).reading) → OnErr r (now' ≡ now)
       → OnOk r (calls' ≡ calls ++ call ∷ []) → OnErr r (calls' ≡ calls) → Kept before first now' calls' to_make'
   noted (Ok x) call first now now' calls calls' to_make to_make' some kept next done undone more none =
       let same = begun_first first now now' some in
       record {
-        sound = subst (λ (cs : List Call). IsSound (first_of first now') cs) (sym more) (subst (λ (r : Reading). IsSound r (calls ++ call ∷ [])) (sym same) next);
+        sound = subst (λ (cs : List Call). KeepsImages (first_of first now') cs) (sym more) (subst (λ (r : Reading). KeepsImages r (calls ++ call ∷ [])) (sym same) next);
         held = record {
           same = done ∙ ap (λ (s : Standing). s.reading) (sym (replay-append (fresh (first_of first now)) calls (call ∷ [])))
               ∙ ap (λ (cs : List Call). (replay (fresh (first_of first now)) cs).reading) (sym more)
@@ -152,7 +152,7 @@ module _ (before : Reading) where
         same = same ∙ kept.same;
       }
   noted (Err e) call first now now' calls calls' to_make to_make' some kept next done undone more none = record {
-    sound = subst (λ (cs : List Call). IsSound (first_of first now') cs) (sym none) (subst (λ (r : Reading). IsSound (first_of first r) calls) (sym undone) kept.sound);
+    sound = subst (λ (cs : List Call). KeepsImages (first_of first now') cs) (sym none) (subst (λ (r : Reading). KeepsImages (first_of first r) calls) (sym undone) kept.sound);
     held = record {
       same = undone ∙ kept.held.same ∙ ap (λ (r : Reading). (replay (fresh (first_of first r)) calls).reading) (sym undone)
           ∙ ap (λ (cs : List Call). (replay (fresh (first_of first now')) cs).reading) (sym none);
@@ -184,7 +184,7 @@ differs_itself (Erases p) r tree = record { tree = tree; others = λ q ne. refl;
 differs_itself (Patches a place bytes) r tree = record { torn = torn_itself a place (length bytes) r; no_longer = omega arith }
 
 writes_told : {T E : Type 0} (w : Write) (no_memory failed : Bool) (r : Result T E) (old new : Standing) → is_err r ≡ (no_memory || failed) → Fits w old.reading → IsTree old.reading.files
-    → new ≡ cond no_memory old (after_write w failed old) → Writes w r old new
+    → new ≡ cond no_memory old (after_write w failed old) → WriteLeaves w r old new
 writes_told w true failed (Ok x) old new e fits tree is = cc
 writes_told w true failed (Err x) old new e fits tree is = inl is
 writes_told w false true (Ok x) old new e fits tree is = cc
@@ -192,7 +192,7 @@ writes_told w false true (Err x) old new e fits tree is = inr (old.reading, is, 
 writes_told w false false (Ok x) old new e fits tree is = is ∙ ap (λ (r : Reading). next old r (with_write w old.pending)) (laid_plain w old.reading fits)
 writes_told w false false (Err x) old new e fits tree is = cc
 
-syncs_told : {T E : Type 0} (no_memory failed : Bool) (r : Result T E) (old new : Standing) → is_err r ≡ (no_memory || failed) → new ≡ cond no_memory old (stands_after old (Sync failed)) → Syncs r old new
+syncs_told : {T E : Type 0} (no_memory failed : Bool) (r : Result T E) (old new : Standing) → is_err r ≡ (no_memory || failed) → new ≡ cond no_memory old (stands_after old (Sync failed)) → SyncLeaves r old new
 syncs_told true failed (Ok x) old new e is = cc
 syncs_told true failed (Err x) old new e is = inl is
 syncs_told false true (Ok x) old new e is = cc
@@ -206,13 +206,13 @@ stands_noted false call first first' calls calls' same is = (λ i. replay (fresh
 
 -- What a disk in memory tells of a write, by its parts.
 pub told_write : {T E : Type 0} (w : Write) (call : Call) (no_memory failed : Bool) (r : Result T E) (first first' : Reading) (calls calls' : List Call) → ((s : Standing) → stands_after s call ≡ after_write w failed s)
-    → is_err r ≡ (no_memory || failed) → first' ≡ first → calls' ≡ cond no_memory calls (calls ++ call ∷ []) → Fits w (replay (fresh first) calls).reading → IsSound first calls → Writes w r (replay (fresh first) calls) (replay (fresh first') calls')
+    → is_err r ≡ (no_memory || failed) → first' ≡ first → calls' ≡ cond no_memory calls (calls ++ call ∷ []) → Fits w (replay (fresh first) calls).reading → KeepsImages first calls → WriteLeaves w r (replay (fresh first) calls) (replay (fresh first') calls')
 told_write w call no_memory failed r first first' calls calls' is_write e same is fits sound =
     let s = replay (fresh first) calls in
     writes_told w no_memory failed r s (replay (fresh first') calls') e fits sound.stays.tree (stands_noted no_memory call first first' calls calls' same is ∙ ap (cond no_memory s) (is_write s))
 
 pub told_sync : {T E : Type 0} (no_memory failed : Bool) (r : Result T E) (first first' : Reading) (calls calls' : List Call) → is_err r ≡ (no_memory || failed) → first' ≡ first → calls' ≡ cond no_memory calls (calls ++ Sync failed ∷ [])
-    → Syncs r (replay (fresh first) calls) (replay (fresh first') calls')
+    → SyncLeaves r (replay (fresh first) calls) (replay (fresh first') calls')
 told_sync no_memory failed r first first' calls calls' e same is = syncs_told no_memory failed r (replay (fresh first) calls) (replay (fresh first') calls') e (stands_noted no_memory (Sync failed) first first' calls calls' same is)
 
 -- The moment never falls.
@@ -230,7 +230,7 @@ files_undone (Ok x) old new areas is = tt
 files_undone (Err e) old new areas is = ap (λ (es : Entries). held es areas) is
 
 module _ (first first' : Option Draft) (files files' : Entries) (areas : Areas) (calls calls' : List Call) (m m' m'' : List (Path × Option (List ℕ)))
-    (sound : IsSound (first_of first (held files areas)) calls) (is_held : IsHeld first (held files areas) calls m)
+    (sound : KeepsImages (first_of first (held files areas)) calls) (is_held : IsHeld first (held files areas) calls m)
     (same : files' ≡ files) (kept_first : first_of first' (held files' areas) ≡ first_of first (held files areas)) (none : first' ≡ None → first ≡ None) (made : first' ≡ None → m' ≡ []) where
   -- What it had at first is kept apart, or was before.
   pub begun : Kept (first_of first (held files areas)) first' (held files' areas) calls m'
@@ -282,7 +282,7 @@ module _ {T E T' E' : Type 0} (call : Bool → Call) (old mid new : MemState) (n
   calls_are : new.calls ≡ cond no_memory old.calls (old.calls ++ call failed ∷ [])
   calls_are = calls' ∙ by_result noted mid.calls old.calls (old.calls ++ call failed ∷ []) more kept ∙ ap (λ (b : Bool). cond b old.calls (old.calls ++ call failed ∷ [])) (sym lacks)
 
-  pub done_write : (w : Write) → ((s : Standing) (f : Bool) → stands_after s (call f) ≡ after_write w f s) → Fits w (standing old).reading → Writes w result (standing old) (standing new)
+  pub done_write : (w : Write) → ((s : Standing) (f : Bool) → stands_after s (call f) ≡ after_write w f s) → Fits w (standing old).reading → WriteLeaves w result (standing old) (standing new)
   done_write w is_write fits = told_write w (call failed) no_memory failed result old.first new.first old.calls new.calls (λ s. is_write s failed) err_is (first' ∙ first) calls_are fits old.sound
 
   pub done_later : length old.calls ≤ length new.calls
@@ -299,7 +299,7 @@ module _ {T E T' E' : Type 0} (call : Bool → Call) (old mid new : MemState) (n
 -- The same of a sync.
 pub done_sync : {T E T' E' : Type 0} (old mid new : MemState) (noted : Result T E) (result : Result T' E') (failed no_memory : Bool) → failed ≡ next_fails old.counts → no_memory ≡ is_err noted
     → OnOk noted (mid.calls ≡ old.calls ++ Sync failed ∷ []) → OnErr noted (mid.calls ≡ old.calls) → mid.first ≡ old.first → mid.counts ≡ old.counts
-    → is_err result ≡ (no_memory || next_fails mid.counts) → new.counts ≡ finished mid.counts no_memory → new.first ≡ mid.first → new.calls ≡ mid.calls → Syncs result (standing old) (standing new)
+    → is_err result ≡ (no_memory || next_fails mid.counts) → new.counts ≡ finished mid.counts no_memory → new.first ≡ mid.first → new.calls ≡ mid.calls → SyncLeaves result (standing old) (standing new)
 done_sync old mid new noted result failed no_memory fails lacks more kept first counts is_failed counted first' calls' =
     told_sync no_memory failed result old.first new.first old.calls new.calls (err_is (λ f. Sync f) old mid new noted result failed no_memory fails lacks more kept first counts is_failed counted first' calls') (first' ∙ first)
     (calls_are (λ f. Sync f) old mid new noted result failed no_memory fails lacks more kept first counts is_failed counted first' calls')

@@ -1,28 +1,27 @@
 -- Writes of paths that change leave the others.
-use Rattle.std.proofs.Common.{◌≡◌, inl, inr, ℕ, ◌+◌, ◌<◌, true, false, List, [], ◌∷◌, ◌++◌, length, take, get_or, Option, Some, None, is_some, refl, sym, ◌∙◌, ap, subst, arith}
+use Rattle.std.proofs.Common.{◌≡◌, inl, inr, ℕ, ◌+◌, ◌<◌, true, false, List, [], ◌∷◌, ◌++◌, length, take, get_or, Option, Some, None, is_some, refl, sym, ◌∙◌, ap, subst}
 use Rattle.std.specs.Prelude.{Result, Ok, Err, OnOk, is_none}
 use Rattle.std.specs.List.{list_any}
 use Rattle.std.specs.Ordering.{eq_by_cmp}
 use Rattle.std.proofs.lemmas.Bool.{or_parts, or_from, false_from_ne_true, both_ways}
-use Rattle.std.proofs.lemmas.List.{take_more, take_all}
+use Rattle.std.proofs.lemmas.List.{take_more}
 use Rattle.wse_path.specs.Order.{path_cmp}
 use Rattle.wse_path.specs.Path.{Path}
-use Rattle.wse_path.specs.Tree.{Entries, content}
+use Rattle.wse_path.specs.Tree.{Entries}
 use Rattle.wse_path.specs.Changes.{is_changed, erased, erased_at, stored, stored_at}
 use Rattle.wse_path.specs.declared.change.Change.{Change}
 use Rattle.wse_path.proofs.TreeLemmas.{same_path}
 use Rattle.wse_path.proofs.ChangeLemmas.{erased_more, stored_more, changed_at}
-use Rattle.wse_path.proofs.LeadLemmas.{room_to_erase, room_to_store, erased_others}
+use Rattle.wse_path.proofs.LeadLemmas.{room_to_erase, room_to_store}
 use Rattle.wse_disk.specs.declared.area.Area.{Area}
-use Rattle.wse_disk.specs.Reading.{Reading, Write, Stores, Erases, Patches, area_of, with_files, written, names, is_in}
+use Rattle.wse_disk.specs.Reading.{Reading, Write, Stores, Erases, Patches, with_files, applied, names, is_in}
 use Rattle.wse_disk.specs.Image.{IsImage}
-use Rattle.wse_disk.specs.Standing.{Standing, Writes}
+use Rattle.wse_disk.specs.Standing.{Standing, WriteLeaves}
 use Rattle.wse_disk.specs.Told.{MayLeave, IsSynced, ReadsAnImage, reading_of}
-use Rattle.wse_disk.specs.Calls.{Told, Wrote, Synced, HasRoomFor}
-use Rattle.wse_disk.specs.Changes.{ChangesOnly, LeadsToTree, LeadsFromErased, HasErased, HasStored, HasChanged, AllOf, IsWriting, takes_away, puts}
+use Rattle.wse_disk.specs.Calls.{Told, TellsWrite, TellsSync, HasRoomFor}
+use Rattle.wse_disk.specs.Changes.{ChangesOnly, LeadsToTree, LeadsFromErased, HasErased, HasStored, HasChanged, AllOf, AreUnderway, takes_away, puts}
 use Rattle.wse_disk.specs.LeavesOnly.{LeavesOnly}
-use Rattle.wse_disk.proofs.AreaLemmas.{areas_stay}
-use Rattle.wse_disk.proofs.Moments.{one_call, no_call, joined, weaker, wrote_goes, synced_goes}
+use Rattle.wse_disk.proofs.Moments.{one_call, no_call, joined, wrote_goes, synced_goes}
 use Rattle.wse_disk.proofs.ImageLemmas.{synced_images, synced_reads}
 
 not_one : (cs : List Change) (p q : Path) → is_changed cs p ≡ false → is_changed cs q ≡ true → eq_by_cmp path_cmp p q ≡ false
@@ -65,17 +64,17 @@ start_only cs None synced = tt
 start_only cs (Some s) synced = (synced.0, subst (AllOf cs) (sym synced.1) tt)
 
 -- Nothing was written yet.
-pub begins : (cs : List Change) (start : Option Standing) → IsSynced start → IsWriting cs start start
+pub begins : (cs : List Change) (start : Option Standing) → IsSynced start → AreUnderway cs start start
 begins cs start synced =
     let only = start_only cs start synced in
     record { only = only; leaves = no_call start start (ChangesOnly cs (reading_of start)) refl (may_only cs start start only) }
 
-writes_only : {T E : Type 0} (cs : List Change) (w : Write) (result : Result T E) (s t u : Standing) → AllOf cs (w ∷ []) → Only cs s t → Writes w result t u → Only cs s u
+writes_only : {T E : Type 0} (cs : List Change) (w : Write) (result : Result T E) (s t u : Standing) → AllOf cs (w ∷ []) → Only cs s t → WriteLeaves w result t u → Only cs s u
 writes_only cs w (Ok x) s t u one only done = (ap (λ (v : Standing). v.pending.base) done ∙ only.0, subst (λ (v : Standing). AllOf cs v.pending.writes) (sym done) (all_last cs t.pending.writes w only.1 one))
 writes_only cs w (Err e) s t u one only (inl same) = (ap (λ (v : Standing). v.pending.base) same ∙ only.0, subst (λ (v : Standing). AllOf cs v.pending.writes) (sym same) only.1)
 writes_only cs w (Err e) s t u one only (inr counts) = (ap (λ (v : Standing). v.pending.base) counts.1 ∙ only.0, subst (λ (v : Standing). AllOf cs v.pending.writes) (sym counts.1) (all_last cs t.pending.writes w only.1 one))
 
-told_only : {T E : Type 0} (cs : List Change) (w : Write) (result : Result T E) (start now new : Option Standing) → AllOf cs (w ∷ []) → Told (Only cs) start now → Wrote w now new result → Told (Only cs) start new
+told_only : {T E : Type 0} (cs : List Change) (w : Write) (result : Result T E) (start now new : Option Standing) → AllOf cs (w ∷ []) → Told (Only cs) start now → TellsWrite w now new result → Told (Only cs) start new
 told_only cs w result None None None one only wrote = tt
 told_only cs w result None None (Some u) one only wrote = absurd wrote
 told_only cs w result None (Some t) new one only wrote = absurd only
@@ -84,14 +83,14 @@ told_only cs w result (Some s) (Some t) None one only wrote = absurd wrote
 told_only cs w result (Some s) (Some t) (Some u) one only wrote = writes_only cs w result s t u one only wrote
 
 -- One write more.
-pub one_more : {T E : Type 0} (cs : List Change) (w : Write) (start now new : Option Standing) (result : Result T E) → AllOf cs (w ∷ []) → Wrote w now new result → IsWriting cs start now → IsWriting cs start new
+pub one_more : {T E : Type 0} (cs : List Change) (w : Write) (start now new : Option Standing) (result : Result T E) → AllOf cs (w ∷ []) → TellsWrite w now new result → AreUnderway cs start now → AreUnderway cs start new
 one_more cs w start now new result one wrote writing =
     let only = told_only cs w result start now new one writing.only wrote in
     let P = ChangesOnly cs (reading_of start) in
     record { only = only; leaves = joined start now new P writing.leaves (one_call now new P (wrote_goes w now new result wrote) (may_only cs start now writing.only) (may_only cs start new only)) }
 
 -- And then a sync.
-pub then_synced : {T E : Type 0} (cs : List Change) (start now new : Option Standing) (result : Result T E) → ReadsAnImage now → Synced now new result → IsWriting cs start now → LeavesOnly start new (ChangesOnly cs (reading_of start))
+pub then_synced : {T E : Type 0} (cs : List Change) (start now new : Option Standing) (result : Result T E) → ReadsAnImage now → TellsSync now new result → AreUnderway cs start now → LeavesOnly start new (ChangesOnly cs (reading_of start))
 then_synced cs start now new result stays synced writing =
     let P = ChangesOnly cs (reading_of start) in
     joined start now new P writing.leaves (one_call now new P (synced_goes now new result synced) (may_only cs start now writing.only) (λ image may. may_only cs start now writing.only image (synced_images now new result stays synced image may)))
@@ -113,7 +112,7 @@ read_then f g h (Some s) (Some t) None same first next = absurd next
 read_then f g h (Some s) (Some t) (Some u) same first next =
     next ∙ ap (λ (r : Reading). with_files (g r.files) r) first ∙ ap (λ (es : Entries). with_files es s.reading) (same s.reading.files)
 
-pub read_synced : {T E : Type 0} (f : Entries → Entries) (old mid new : Option Standing) (result : Result T E) → Read f old mid → Synced mid new result → Read f old new
+pub read_synced : {T E : Type 0} (f : Entries → Entries) (old mid new : Option Standing) (result : Result T E) → Read f old mid → TellsSync mid new result → Read f old new
 read_synced f old mid new result first synced = go old mid new first (synced_reads mid new result synced)
   where
     go : (old mid new : Option Standing) → Read f old mid → Told (λ s t. t.reading ≡ s.reading) mid new → Read f old new
@@ -128,10 +127,10 @@ on_any : {T E : Type 0} (r : Result T E) (P : Type 0) → P → OnOk r P
 on_any (Ok x) P p = p
 on_any (Err e) P p = tt
 
-pub read_synced_ok : {T E : Type 0} (f : Entries → Entries) (old mid new : Option Standing) (result : Result T E) → Read f old mid → Synced mid new result → OnOk result (Read f old new)
+pub read_synced_ok : {T E : Type 0} (f : Entries → Entries) (old mid new : Option Standing) (result : Result T E) → Read f old mid → TellsSync mid new result → OnOk result (Read f old new)
 read_synced_ok f old mid new result first synced = on_any result (Read f old new) (read_synced f old mid new result first synced)
 
-wrote_read : {T E : Type 0} (w : Write) (f : Entries → Entries) (old new : Option Standing) (result : Result T E) → ((r : Reading) → written w r ≡ with_files (f r.files) r) → Wrote w old new result → OnOk result (Read f old new)
+wrote_read : {T E : Type 0} (w : Write) (f : Entries → Entries) (old new : Option Standing) (result : Result T E) → ((r : Reading) → applied w r ≡ with_files (f r.files) r) → TellsWrite w old new result → OnOk result (Read f old new)
 wrote_read w f None None (Ok x) is wrote = tt
 wrote_read w f None (Some u) (Ok x) is wrote = absurd wrote
 wrote_read w f (Some s) None (Ok x) is wrote = absurd wrote
@@ -139,10 +138,10 @@ wrote_read w f (Some s) (Some u) (Ok x) is wrote = ap (λ (v : Standing). v.read
 wrote_read w f old new (Err e) is wrote = tt
 
 -- One change's erase, or none.
-pub erase_read : {T E : Type 0} (p : Path) (after : Option (List ℕ)) (old new : Option Standing) (result : Result T E) → after ≡ None → Wrote (Erases p) old new result → OnOk result (Read (erased_at p after) old new)
+pub erase_read : {T E : Type 0} (p : Path) (after : Option (List ℕ)) (old new : Option Standing) (result : Result T E) → after ≡ None → TellsWrite (Erases p) old new result → OnOk result (Read (erased_at p after) old new)
 erase_read p after old new result none wrote = subst (λ (o : Option (List ℕ)). OnOk result (Read (erased_at p o) old new)) (sym none) (wrote_read (Erases p) (erased_at p None) old new result (λ r. refl) wrote)
 
-pub store_read : {T E : Type 0} (p : Path) (bytes : List ℕ) (after : Option (List ℕ)) (old new : Option Standing) (result : Result T E) → after ≡ Some bytes → Wrote (Stores p bytes) old new result → OnOk result (Read (stored_at p after) old new)
+pub store_read : {T E : Type 0} (p : Path) (bytes : List ℕ) (after : Option (List ℕ)) (old new : Option Standing) (result : Result T E) → after ≡ Some bytes → TellsWrite (Stores p bytes) old new result → OnOk result (Read (stored_at p after) old new)
 store_read p bytes after old new result some wrote = subst (λ (o : Option (List ℕ)). OnOk result (Read (stored_at p o) old new)) (sym some) (wrote_read (Stores p bytes) (stored_at p (Some bytes)) old new result (λ r. refl) wrote)
 
 pub erase_none : (p : Path) (bytes : List ℕ) (after : Option (List ℕ)) (told : Option Standing) → after ≡ Some bytes → Read (erased_at p after) told told
@@ -213,22 +212,3 @@ leads_on cs (Some s) (Some t) lead erased_all = (s.reading.files, lead, ap (λ (
 pub both_done : {T E : Type 0} (cs : List Change) (old mid new : Option Standing) (result : Result T E) → HasErased cs old mid → OnOk result (HasStored cs mid new) → OnOk result (HasChanged cs old new)
 both_done cs old mid new (Ok x) first next = read_then (erased cs) (stored cs) (λ es. stored cs (erased cs es)) old mid new (λ es. refl) first next
 both_done cs old mid new (Err e) first next = tt
-
-after_erase : (cs : List Change) (old mid : Option Standing) (image : Reading) → LeadsToTree old cs → HasErased cs old mid → ChangesOnly cs (reading_of mid) image → ChangesOnly cs (reading_of old) image
-after_erase cs None None image lead first next = next
-after_erase cs None (Some t) image lead first next = absurd first
-after_erase cs (Some s) None image lead first next = absurd first
-after_erase cs (Some s) (Some t) image lead first next = record {
-  files = record {
-    tree = next.files.tree;
-    others = λ q none. next.files.others q none ∙ ap (λ (r : Reading). content r.files q) first
-        ∙ ap (λ (l : List Change). content (erased l s.reading.files) q) (sym (take_all (length cs) cs (omega arith)))
-        ∙ erased_others s.reading.files cs (length cs) lead q none;
-  };
-  areas = λ a. next.areas a ∙ ap (area_of a) first ∙ areas_stay a (erased cs s.reading.files) s.reading;
-}
-
--- The two parts, one after the other.
-pub both_parts : (cs : List Change) (old mid new : Option Standing) → LeadsToTree old cs → HasErased cs old mid → LeavesOnly old mid (ChangesOnly cs (reading_of old)) → LeavesOnly mid new (ChangesOnly cs (reading_of mid)) → LeavesOnly old new (ChangesOnly cs (reading_of old))
-both_parts cs old mid new lead first leaves more =
-    joined old mid new (ChangesOnly cs (reading_of old)) leaves (weaker mid new (ChangesOnly cs (reading_of mid)) (ChangesOnly cs (reading_of old)) (λ image only. after_erase cs old mid image lead first only) more)

@@ -4,8 +4,8 @@ use Rattle.std.specs.Prelude.{◌≡◌, ⊤, ℕ, ◌+◌, ◌<◌, ◌≤◌, 
 use Rattle.wse_path.specs.Path.{Path}
 use Rattle.wse_path.specs.Tree.{content, HasRoom}
 use Rattle.wse_disk.specs.declared.area.Area.{Area}
-use Rattle.wse_disk.specs.Reading.{Write, area_of, written}
-use Rattle.wse_disk.specs.Standing.{Standing, Writes, Syncs}
+use Rattle.wse_disk.specs.Reading.{Write, area_of, applied}
+use Rattle.wse_disk.specs.Standing.{Standing, WriteLeaves, SyncLeaves}
 use Rattle.wse_disk.specs.Told.{WhereTold}
 
 abbrev pub bytes_or_none : Option (List ℕ) → List ℕ
@@ -52,13 +52,13 @@ Told R (Some s) None = ⊥
 Told R (Some s) (Some t) = R s t
 
 -- What is told after a write.
-abbrev pub Wrote : {T E : Type 0} → Write → Option Standing → Option Standing → Result T E → Type 0
-Wrote w old new result = Told (Writes w result) old new
+abbrev pub TellsWrite : {T E : Type 0} → Write → Option Standing → Option Standing → Result T E → Type 0
+TellsWrite w old new result = Told (WriteLeaves w result) old new
 
 -- What is told after a sync.
-abbrev pub Synced : {T E : Type 0} → Option Standing → Option Standing → Result T E → Type 0
-Synced old new result = Told (Syncs result) old new
+abbrev pub TellsSync : {T E : Type 0} → Option Standing → Option Standing → Result T E → Type 0
+TellsSync old new result = Told (SyncLeaves result) old new
 
 -- What is read is what was read before, with the write done whole.
-abbrev pub HasWritten : Write → Option Standing → Option Standing → Type 0
-HasWritten w old new = Told (λ s t. t.reading ≡ written w s.reading) old new
+abbrev pub HasApplied : Write → Option Standing → Option Standing → Type 0
+HasApplied w old new = Told (λ s t. t.reading ≡ applied w s.reading) old new

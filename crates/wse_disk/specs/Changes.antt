@@ -1,5 +1,5 @@
 -- Changes of files, made on a disk.
-use Rattle.std.specs.Prelude.{◌≡◌, ⊤, Bool, true, List, [], ◌∷◌, Option, is_some, is_none}
+use Rattle.std.specs.Prelude.{◌≡◌, ◌⊎◌, ⊤, Bool, true, List, [], ◌∷◌, Option, is_some, is_none, filter}
 use Rattle.std.specs.List.{list_any}
 use Rattle.wse_path.specs.Tree.{Entries}
 use Rattle.wse_path.specs.Changes.{is_changed, erased, erased_at, stored, stored_at, LeadToTree, DiffersOnlyAt}
@@ -44,6 +44,20 @@ takes_away changes = list_any (λ c. is_none c.after) changes
 abbrev pub puts : List Change → Bool
 puts changes = list_any (λ c. is_some c.after) changes
 
+-- Those of the changes that take their paths away.
+abbrev pub erasing : List Change → List Change
+erasing changes = filter (λ c. is_none c.after) changes
+
+-- Those of the changes that put something.
+abbrev pub storing : List Change → List Change
+storing changes = filter (λ c. is_some c.after) changes
+
+-- What the changes put comes only when all that they take away is gone: before that, the new reading differs from the old
+-- one only at paths that are taken away, and then, from the old one without these, only at paths where something is put.
+abbrev pub ErasesFirst : List Change → (old new : Reading) → Type 0
+ErasesFirst changes old new =
+    ChangesOnly (erasing changes) old new ⊎ ChangesOnly (storing changes) (with_files (erased changes old.files) old) new
+
 -- What is read is what the changes leave of some files that they lead to a tree, when they have taken away.
 abbrev pub LeadsFromErased : Option Standing → List Change → Type 0
 LeadsFromErased told changes = WhereTold told (λ s. (files : Entries) × LeadToTree files changes × (s.reading.files ≡ erased changes files))
@@ -64,6 +78,6 @@ AllOf changes (Erases p ∷ ws) = (is_changed changes p ≡ true) × AllOf chang
 AllOf changes (Patches a place bytes ∷ ws) = ⊥
 
 -- Since nothing was pending at the start, only paths that change were written, and a crash left all else.
-pub record IsWriting (changes : List Change) (start now : Option Standing) : Type 0 where
+pub record AreUnderway (changes : List Change) (start now : Option Standing) : Type 0 where
   pub only : Told (λ s t. (t.pending.base ≡ s.reading) × AllOf changes t.pending.writes) start now
   pub leaves : LeavesOnly start now (ChangesOnly changes (reading_of start))

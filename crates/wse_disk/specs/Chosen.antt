@@ -1,7 +1,7 @@
 -- Which image a choice takes. This project's own rule.
 use Rattle.std.specs.Prelude.{◌≡◌, ◌⊎◌, ℕ, zero, suc, ◌+◌, ◌/◌, ◌%◌, ◌^◌, nat_lt, List, [], ◌∷◌, length, replicate, if◌then◌else◌}
 use Rattle.wse_path.specs.Tree.{IsTree}
-use Rattle.wse_disk.specs.Reading.{Reading, Write, Stores, Erases, Patches, written}
+use Rattle.wse_disk.specs.Reading.{Reading, Write, Stores, Erases, Patches, applied}
 use Rattle.wse_disk.specs.Standing.{Pending, IsImageOf}
 use Rattle.wse_disk.specs.Replay.{laid}
 use Rattle.wse_disk.specs.declared.fate.Fate.{Fate}
@@ -21,8 +21,8 @@ fate choice index = fate_of (if nat_lt choice 3 then choice else (choice / 3 ^ (
 abbrev pub left_by : Fate → Write → Reading → Reading
 left_by Lost w r = r
 left_by Kept w r = laid w r
-left_by Blank (Stores p bytes) r = written (Erases p) r
-left_by Blank (Erases p) r = written (Erases p) r
+left_by Blank (Stores p bytes) r = applied (Erases p) r
+left_by Blank (Erases p) r = applied (Erases p) r
 left_by Blank (Patches a place bytes) r = laid (Patches a place (replicate (length bytes) 0)) r
 
 -- What the writes leave, of which the first has that index.

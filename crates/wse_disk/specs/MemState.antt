@@ -10,20 +10,20 @@ use Rattle.wse_disk.specs.Replay.{replay, pending_at, first_of}
 use Rattle.wse_disk.specs.CallCounts.{CallState, next_fails, called, finished}
 
 -- What is read is an image, what was read after each sync is a tree, and each call is a moment.
-pub record IsSound (first : Reading) (calls : List Call) : Type 0 where
+pub record KeepsImages (first : Reading) (calls : List Call) : Type 0 where
   pub stays : IsImageOf (replay (fresh first) calls).pending (replay (fresh first) calls).reading
   pub bases : (moment : ℕ) → IsTree (pending_at (replay (fresh first) calls) moment).base.files
   pub counted : length calls ≡ length (replay (fresh first) calls).past
 
-pub IsSound-prop : (first : Reading) (calls : List Call) → IsProp (IsSound first calls)
-IsSound-prop first calls = hlevel props
+pub KeepsImages-prop : (first : Reading) (calls : List Call) → IsProp (KeepsImages first calls)
+KeepsImages-prop first calls = hlevel props
 
 -- What it had at first, the calls that changed it or made it last, and the counts of all its calls.
 pub record MemState : Type 0 where
   pub first : Reading
   pub calls : List Call
   pub counts : CallState
-  pub sound : IsSound first calls
+  pub sound : KeepsImages first calls
 
 -- What it stands for.
 abbrev pub standing : MemState → Standing

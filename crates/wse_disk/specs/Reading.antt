@@ -56,10 +56,10 @@ abbrev pub patched : ℕ → List ℕ → List ℕ → List ℕ
 patched place bytes old = take place old ++ bytes ++ drop (place + length bytes) old
 
 -- What is read after a write that was done whole.
-abbrev pub written : Write → Reading → Reading
-written (Stores p bytes) r = record r { files = put_file r.files p bytes }
-written (Erases p) r = record r { files = remove_file r.files p }
-written (Patches a place bytes) r = with_area a (patched place bytes (area_of a r)) r
+abbrev pub applied : Write → Reading → Reading
+applied (Stores p bytes) r = record r { files = put_file r.files p bytes }
+applied (Erases p) r = record r { files = remove_file r.files p }
+applied (Patches a place bytes) r = with_area a (patched place bytes (area_of a r)) r
 
 -- The write stores or erases the path.
 abbrev pub names : Path → Write → Bool

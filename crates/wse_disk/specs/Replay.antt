@@ -1,8 +1,8 @@
 -- What a disk in memory stands for: its calls, done again from what it had at first.
 use Rattle.std.specs.Prelude.{ℕ, ◌+◌, ◌-◌, Bool, List, [], ◌∷◌, ◌++◌, length, take, drop, replicate, slice_index_or, if◌then◌else◌, Option, Some, None}
 use Rattle.wse_path.specs.Tree.{Entries}
-use Rattle.wse_disk.specs.Reading.{Reading, Write, Stores, Erases, Patches, written, area_of, with_area}
-use Rattle.wse_disk.specs.Standing.{Standing, Pending, next, with_write, synced}
+use Rattle.wse_disk.specs.Reading.{Reading, Write, Stores, Erases, Patches, applied, area_of, with_area}
+use Rattle.wse_disk.specs.Standing.{Standing, Pending, next, with_write, after_whole_sync}
 use Rattle.wse_disk.specs.declared.areas.Areas.{Areas}
 use Rattle.wse_disk.specs.declared.draft.Draft.{Draft}
 use Rattle.wse_disk.specs.declared.call.Call.{Call}
@@ -26,8 +26,8 @@ laid_bytes place bytes old = take place old ++ replicate (place - length old) 0 
 
 -- What is read after a write that was done whole, a gap before its place being zeros.
 abbrev pub laid : Write → Reading → Reading
-laid (Stores p bytes) r = written (Stores p bytes) r
-laid (Erases p) r = written (Erases p) r
+laid (Stores p bytes) r = applied (Stores p bytes) r
+laid (Erases p) r = applied (Erases p) r
 laid (Patches a place bytes) r = with_area a (laid_bytes place bytes (area_of a r)) r
 
 -- The writes, one after another.
@@ -43,7 +43,7 @@ abbrev pub stands_after : Standing → Call → Standing
 stands_after s (Store path bytes failed) = after_write (Stores path bytes) failed s
 stands_after s (Erase path failed) = after_write (Erases path) failed s
 stands_after s (Patch area at bytes failed) = after_write (Patches area at bytes) failed s
-stands_after s (Sync failed) = if failed then next s s.reading s.pending else synced s
+stands_after s (Sync failed) = if failed then next s s.reading s.pending else after_whole_sync s
 
 -- The calls, one after another.
 abbrev pub replay : Standing → List Call → Standing

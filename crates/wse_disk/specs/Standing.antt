@@ -1,6 +1,6 @@
 -- What a disk that tells tells, and how its calls change that.
 use Rattle.std.specs.Prelude.{◌≡◌, ◌⊎◌, List, [], ◌∷◌, ◌++◌, Result, Ok, Err}
-use Rattle.wse_disk.specs.Reading.{Reading, Write, written}
+use Rattle.wse_disk.specs.Reading.{Reading, Write, applied}
 use Rattle.wse_disk.specs.Image.{IsImage, DiffersBy}
 
 -- What decides the images of a moment: what was read after the last sync that succeeded, and the writes since then.
@@ -35,23 +35,23 @@ abbrev pub with_write : Write → Pending → Pending
 with_write w p = record { base = p.base; writes = p.writes ++ w ∷ [] }
 
 -- After a write that was done whole.
-abbrev pub wrote : Write → Standing → Standing
-wrote w s = next s (written w s.reading) (with_write w s.pending)
+abbrev pub after_whole_write : Write → Standing → Standing
+after_whole_write w s = next s (applied w s.reading) (with_write w s.pending)
 
 -- After a write that failed: it counts as a write and changed at most what it names, or it left no trace.
 abbrev pub FailedWrite : Write → Standing → Standing → Type 0
 FailedWrite w old new = (new ≡ old) ⊎ ((r : Reading) × (new ≡ next old r (with_write w old.pending)) × DiffersBy w old.reading r)
 
 -- After a write.
-abbrev pub Writes : {T E : Type 0} → Write → Result T E → Standing → Standing → Type 0
-Writes w (Ok x) old new = new ≡ wrote w old
-Writes w (Err e) old new = FailedWrite w old new
+abbrev pub WriteLeaves : {T E : Type 0} → Write → Result T E → Standing → Standing → Type 0
+WriteLeaves w (Ok x) old new = new ≡ after_whole_write w old
+WriteLeaves w (Err e) old new = FailedWrite w old new
 
 -- After a sync that succeeded: what is read is what a crash leaves.
-abbrev pub synced : Standing → Standing
-synced s = next s s.reading (record { base = s.reading; writes = [] })
+abbrev pub after_whole_sync : Standing → Standing
+after_whole_sync s = next s s.reading (record { base = s.reading; writes = [] })
 
 -- After a sync. One that failed changes nothing; a moment may pass.
-abbrev pub Syncs : {T E : Type 0} → Result T E → Standing → Standing → Type 0
-Syncs (Ok x) old new = new ≡ synced old
-Syncs (Err e) old new = (new ≡ old) ⊎ (new ≡ next old old.reading old.pending)
+abbrev pub SyncLeaves : {T E : Type 0} → Result T E → Standing → Standing → Type 0
+SyncLeaves (Ok x) old new = new ≡ after_whole_sync old
+SyncLeaves (Err e) old new = (new ≡ old) ⊎ (new ≡ next old old.reading old.pending)

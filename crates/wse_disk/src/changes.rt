@@ -7,7 +7,7 @@ ghost use Rattle.wse_disk.specs.Reading.{with_files};
 ghost use Rattle.wse_disk.specs.Standing.{Standing};
 ghost use Rattle.wse_disk.specs.Told.{IsAtRest, IsSynced, reading_of};
 ghost use Rattle.wse_disk.specs.Calls.{HasRoomFor, Told};
-ghost use Rattle.wse_disk.specs.Changes.{LeadsToTree, LeadsFromErased, HasErased, HasStored, HasChanged, HasErasedOne, HasStoredOne, HasChangedOnly, ChangesOnly, IsWriting, takes_away, puts};
+ghost use Rattle.wse_disk.specs.Changes.{LeadsToTree, LeadsFromErased, HasErased, HasStored, HasChanged, HasErasedOne, HasStoredOne, HasChangedOnly, ChangesOnly, ErasesFirst, AreUnderway, takes_away, puts, erasing, storing};
 ghost use Rattle.wse_disk.specs.LeavesOnly.{LeavesOnly};
 
 use crate::disk::{Disk, Failed};
@@ -17,8 +17,9 @@ use wse_path::Change;
 fn erase_one<D: Disk>(disk: &mut D, change: &Change) -> Result<(), Failed>
     requires { change.now.after ≡ None → HasRoomFor (D.told disk.old) change.now.path }
     ensures erased { OnOk result (HasErasedOne change.now (D.told disk.old) (D.told disk.new)) }
-    ensures writing { (changes : List Change) (start : Option Standing) → is_changed changes change.now.path ≡ true
-        → IsWriting changes start (D.told disk.old) → IsWriting changes start (D.told disk.new) }
+    ensures writing { (changes : List Change) (start : Option Standing)
+        → (change.now.after ≡ None → is_changed changes change.now.path ≡ true)
+        → AreUnderway changes start (D.told disk.old) → AreUnderway changes start (D.told disk.new) }
     ensures kept { (changes : List Change) (start : Option Standing) → is_changed changes change.now.path ≡ true
         → HasChangedOnly changes start (D.told disk.old) → HasChangedOnly changes start (D.told disk.new) }
     ensures later { D.moment_of disk.old ≤ D.moment_of disk.new }
@@ -34,8 +35,9 @@ fn erase_one<D: Disk>(disk: &mut D, change: &Change) -> Result<(), Failed>
 fn store_one<D: Disk>(disk: &mut D, change: &Change) -> Result<(), Failed>
     requires { (bytes : List ℕ) → change.now.after ≡ Some bytes → HasRoomFor (D.told disk.old) change.now.path }
     ensures stored { OnOk result (HasStoredOne change.now (D.told disk.old) (D.told disk.new)) }
-    ensures writing { (changes : List Change) (start : Option Standing) → is_changed changes change.now.path ≡ true
-        → IsWriting changes start (D.told disk.old) → IsWriting changes start (D.told disk.new) }
+    ensures writing { (changes : List Change) (start : Option Standing)
+        → ((bytes : List ℕ) → change.now.after ≡ Some bytes → is_changed changes change.now.path ≡ true)
+        → AreUnderway changes start (D.told disk.old) → AreUnderway changes start (D.told disk.new) }
     ensures kept { (changes : List Change) (start : Option Standing) → is_changed changes change.now.path ≡ true
         → HasChangedOnly changes start (D.told disk.old) → HasChangedOnly changes start (D.told disk.new) }
     ensures later { D.moment_of disk.old ≤ D.moment_of disk.new }
@@ -51,8 +53,8 @@ fn store_one<D: Disk>(disk: &mut D, change: &Change) -> Result<(), Failed>
 fn erase_all<D: Disk>(disk: &mut D, changes: &[Change]) -> Result<(), Failed>
     requires { LeadsToTree (D.told disk.old) changes.now }
     ensures erased { OnOk result (HasErased changes.now (D.told disk.old) (D.told disk.new)) }
-    ensures writing { (start : Option Standing) → IsWriting changes.now start (D.told disk.old)
-        → IsWriting changes.now start (D.told disk.new) }
+    ensures writing { (start : Option Standing) → AreUnderway (erasing changes.now) start (D.told disk.old)
+        → AreUnderway (erasing changes.now) start (D.told disk.new) }
     ensures kept { (start : Option Standing) → HasChangedOnly changes.now start (D.told disk.old)
         → HasChangedOnly changes.now start (D.told disk.new) }
     ensures later { D.moment_of disk.old ≤ D.moment_of disk.new }
@@ -68,8 +70,8 @@ fn erase_all<D: Disk>(disk: &mut D, changes: &[Change]) -> Result<(), Failed>
 fn store_all<D: Disk>(disk: &mut D, changes: &[Change]) -> Result<(), Failed>
     requires { LeadsFromErased (D.told disk.old) changes.now }
     ensures stored { OnOk result (HasStored changes.now (D.told disk.old) (D.told disk.new)) }
-    ensures writing { (start : Option Standing) → IsWriting changes.now start (D.told disk.old)
-        → IsWriting changes.now start (D.told disk.new) }
+    ensures writing { (start : Option Standing) → AreUnderway (storing changes.now) start (D.told disk.old)
+        → AreUnderway (storing changes.now) start (D.told disk.new) }
     ensures kept { (start : Option Standing) → HasChangedOnly changes.now start (D.told disk.old)
         → HasChangedOnly changes.now start (D.told disk.new) }
     ensures later { D.moment_of disk.old ≤ D.moment_of disk.new }
@@ -87,7 +89,7 @@ pub fn erase_synced<D: Disk>(disk: &mut D, changes: &[Change]) -> Result<(), Fai
     ensures erased { OnOk result (HasErased changes.now (D.told disk.old) (D.told disk.new)) }
     ensures synced { IsSynced (D.told disk.old) → OnOk result (IsSynced (D.told disk.new)) }
     ensures during { IsSynced (D.told disk.old)
-        → LeavesOnly (D.told disk.old) (D.told disk.new) (ChangesOnly changes.now (reading_of (D.told disk.old))) }
+        → LeavesOnly (D.told disk.old) (D.told disk.new) (ChangesOnly (erasing changes.now) (reading_of (D.told disk.old))) }
     ensures later { D.moment_of disk.old ≤ D.moment_of disk.new }
     ensures cause { HasCause (D.faults disk.old) (D.faults disk.new) result }
 {
@@ -104,7 +106,7 @@ pub fn store_synced<D: Disk>(disk: &mut D, changes: &[Change]) -> Result<(), Fai
     ensures stored { OnOk result (HasStored changes.now (D.told disk.old) (D.told disk.new)) }
     ensures synced { IsSynced (D.told disk.old) → OnOk result (IsSynced (D.told disk.new)) }
     ensures during { IsSynced (D.told disk.old)
-        → LeavesOnly (D.told disk.old) (D.told disk.new) (ChangesOnly changes.now (reading_of (D.told disk.old))) }
+        → LeavesOnly (D.told disk.old) (D.told disk.new) (ChangesOnly (storing changes.now) (reading_of (D.told disk.old))) }
     ensures later { D.moment_of disk.old ≤ D.moment_of disk.new }
     ensures cause { HasCause (D.faults disk.old) (D.faults disk.new) result }
 {
@@ -117,13 +119,16 @@ pub fn store_synced<D: Disk>(disk: &mut D, changes: &[Change]) -> Result<(), Fai
 
 /// Makes the changes: takes away what is to be absent and syncs, then stores the rest and syncs. A part without paths
 /// makes no call. Where no write was pending before, a crash during the call leaves what was read then, but for the paths
-/// that change.
+/// that change; and nothing that is to be stored comes before all that is to be absent is gone for good, so that no file
+/// or folder is in its way.
 pub fn make_synced<D: Disk>(disk: &mut D, changes: &[Change]) -> Result<(), Failed>
     requires { LeadsToTree (D.told disk.old) changes.now }
     ensures changed { OnOk result (HasChanged changes.now (D.told disk.old) (D.told disk.new)) }
     ensures synced { IsSynced (D.told disk.old) → OnOk result (IsSynced (D.told disk.new)) }
     ensures during { IsSynced (D.told disk.old)
         → LeavesOnly (D.told disk.old) (D.told disk.new) (ChangesOnly changes.now (reading_of (D.told disk.old))) }
+    ensures order { IsSynced (D.told disk.old)
+        → LeavesOnly (D.told disk.old) (D.told disk.new) (ErasesFirst changes.now (reading_of (D.told disk.old))) }
     ensures later { D.moment_of disk.old ≤ D.moment_of disk.new }
     ensures cause { HasCause (D.faults disk.old) (D.faults disk.new) result }
 {

@@ -5,7 +5,7 @@ ghost use Rattle.wse_disk.specs.Causes.{HasReadCause};
 ghost use Rattle.wse_disk.specs.Reading.Write.{Stores, Erases, Patches};
 ghost use Rattle.wse_disk.specs.Standing.{Standing};
 ghost use Rattle.wse_disk.specs.Told.{ReadsAnImage, CountsMoments};
-ghost use Rattle.wse_disk.specs.Calls.{ReadsNames, ReadsSize, ReadsFile, ReadsLength, ReadsPart, HasRoomFor, HasPart, IsPatchable, Wrote, Synced};
+ghost use Rattle.wse_disk.specs.Calls.{ReadsNames, ReadsSize, ReadsFile, ReadsLength, ReadsPart, HasRoomFor, HasPart, IsPatchable, TellsWrite, TellsSync};
 
 use crate::area::Area;
 use std::alloc::{AllocError, Global};
@@ -98,14 +98,14 @@ pub trait Disk {
     /// Makes the bytes the content of the path.
     fn store(&mut self, path: &RelPath, bytes: &[u8]) -> Result<(), Failed>
         requires { HasRoomFor (told self.old) path.now }
-        ensures writes { Wrote (Stores path.now bytes.now) (told self.old) (told self.new) result }
+        ensures writes { TellsWrite (Stores path.now bytes.now) (told self.old) (told self.new) result }
         ensures later { moment_of self.old ≤ moment_of self.new }
         ensures cause { HasCause (faults self.old) (faults self.new) result };
 
     /// Takes the path away.
     fn erase(&mut self, path: &RelPath) -> Result<(), Failed>
         requires { HasRoomFor (told self.old) path.now }
-        ensures writes { Wrote (Erases path.now) (told self.old) (told self.new) result }
+        ensures writes { TellsWrite (Erases path.now) (told self.old) (told self.new) result }
         ensures later { moment_of self.old ≤ moment_of self.new }
         ensures cause { HasCause (faults self.old) (faults self.new) result };
 
@@ -129,14 +129,14 @@ pub trait Disk {
     /// written is below 2^63.
     fn area_write(&mut self, area: Area, at: u64, bytes: &[u8]) -> Result<(), Failed>
         requires { IsPatchable (told self.old) area at bytes.now }
-        ensures writes { Wrote (Patches area at bytes.now) (told self.old) (told self.new) result }
+        ensures writes { TellsWrite (Patches area at bytes.now) (told self.old) (told self.new) result }
         ensures bounded { OnOk result (at + length bytes.now ≤ 2 ^ 63) }
         ensures later { moment_of self.old ≤ moment_of self.new }
         ensures cause { HasCause (faults self.old) (faults self.new) result };
 
     /// Makes all writes so far last: after it a crash leaves what is read.
     fn sync(&mut self) -> Result<(), Failed>
-        ensures syncs { Synced (told self.old) (told self.new) result }
+        ensures syncs { TellsSync (told self.old) (told self.new) result }
         ensures later { moment_of self.old ≤ moment_of self.new }
         ensures cause { HasCause (faults self.old) (faults self.new) result };
 

@@ -11,7 +11,7 @@ use crate::areas::Areas;
 use crate::call::Call;
 use crate::fate::{Fate, fate_at};
 use std::alloc::Global;
-use wse_path::{Bytes, Duplicate, Memory, PathMap, RelPath, Tree};
+use wse_path::{Bytes, Duplicate, Memory, PathMap, RelPath, Tree, copy_bytes};
 
 /// Files and areas.
 #[derive(Drop)]
@@ -189,17 +189,8 @@ fn add_file(
     requires before { files.old.entries ≡ take index tree.now.files }
     ensures { OnOk result (files.new.entries ≡ take (index + 1) tree.now.files) }
 {
-    let path = tree.path_at(index).unwrap();
-    let bytes = tree.get(path).unwrap();
-    let copy = copy_of(alloc, bytes)?;
-    files.put(path.duplicate(alloc)?, copy)
-}
-
-/// A copy of the bytes.
-pub fn copy_of(alloc: Global, bytes: &[u8]) -> Result<Bytes, Memory>
-    ensures { IfOk result (λ copy. copy ≡ bytes.now) }
-{
-    Ok(Bytes::new(bytes.to_vec(alloc)?))
+    let (path, bytes) = tree.file_at(index);
+    files.put(path.duplicate(alloc)?, copy_bytes(alloc, bytes)?)
 }
 
 /// The tree of these files, if they are one.

@@ -4,7 +4,7 @@ ghost use Rattle.wse_disk.specs.Reading.{Reading, Write};
 ghost use Rattle.wse_disk.specs.Standing.{Standing};
 ghost use Rattle.wse_disk.specs.MemState.{standing};
 ghost use Rattle.wse_disk.specs.Told.{LeftSince, IsAtRest, IsSynced, ReadsAnImage, moment_told};
-ghost use Rattle.wse_disk.specs.Calls.{Wrote, Synced};
+ghost use Rattle.wse_disk.specs.Calls.{TellsWrite, TellsSync};
 
 use crate::disk::Disk;
 use crate::mem::MemDisk;
@@ -19,16 +19,16 @@ pub fn mem_disk_tells(disk: &MemDisk)
 /// After a call each image since an earlier moment was one since that moment before the call, or is one since the call's
 /// start; and what was one still is.
 pub fn images_go_on()
-    ensures write { (w : Write) (old new : Option Standing) (result : Result ⊤ ⊤) → Wrote w old new result
+    ensures write { (w : Write) (old new : Option Standing) (result : Result ⊤ ⊤) → TellsWrite w old new result
         → (moment : ℕ) (image : Reading) → moment ≤ moment_told old → LeftSince new moment image
         → LeftSince old moment image ⊎ LeftSince new (moment_told old) image }
-    ensures sync { (old new : Option Standing) (result : Result ⊤ ⊤) → Synced old new result
+    ensures sync { (old new : Option Standing) (result : Result ⊤ ⊤) → TellsSync old new result
         → (moment : ℕ) (image : Reading) → moment ≤ moment_told old → LeftSince new moment image
         → LeftSince old moment image ⊎ LeftSince new (moment_told old) image }
-    ensures kept_by_write { (w : Write) (old new : Option Standing) (result : Result ⊤ ⊤) → Wrote w old new result
+    ensures kept_by_write { (w : Write) (old new : Option Standing) (result : Result ⊤ ⊤) → TellsWrite w old new result
         → (moment : ℕ) (image : Reading) → moment ≤ moment_told old → LeftSince old moment image
         → LeftSince new moment image }
-    ensures kept_by_sync { (old new : Option Standing) (result : Result ⊤ ⊤) → Synced old new result
+    ensures kept_by_sync { (old new : Option Standing) (result : Result ⊤ ⊤) → TellsSync old new result
         → (moment : ℕ) (image : Reading) → moment ≤ moment_told old → LeftSince old moment image
         → LeftSince new moment image }
 {}

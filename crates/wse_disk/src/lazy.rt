@@ -1,16 +1,14 @@
 // A tree that makes its changes many at once.
 ghost use Rattle.std.specs.Prelude.{◌≡◌, ◌++◌, [], ◌∷◌, None, Some, IfOk, OnOk, OnErr, true, length, map, option_map};
-ghost use Rattle.std.specs.Option.{option_copied};
 ghost use Rattle.std.specs.FinMap.{is_sorted};
 ghost use Rattle.wse_path.specs.Order.{path_cmp};
 ghost use Rattle.wse_path.specs.Place.{all_before};
 ghost use Rattle.wse_path.specs.Tree.{content, fits, put_file, remove_file, set_file, set_files, HasRoom, IsTree};
 
-use crate::copies::paths_of;
 use std::alloc::Global;
 use std::marker::Model;
 use std::mem;
-use wse_path::{Bytes, Duplicate, Memory, RelPath, Tree};
+use wse_path::{Bytes, Duplicate, Memory, RelPath, Tree, copy_bytes, copy_content};
 
 /// A tree that keeps changes which come in path order apart, to make them all in one pass. Contracts see the files with all
 /// changes made, and the changes that are still to be made.
@@ -82,7 +80,7 @@ impl LazyTree {
         ensures made { self.new.changes ≡ [] }
     {
         self.settle();
-        paths_of(alloc, self.tree())
+        Ok(self.tree().paths(alloc)?.into_vec())
     }
 
     /// How many bytes the file has. Makes all changes.
@@ -96,13 +94,13 @@ impl LazyTree {
     }
 
     /// A copy of the file's bytes. Makes all changes.
-    pub fn read(&mut self, alloc: Global, path: &RelPath) -> Result<Option<Vec<u8>>, Memory>
-        ensures bytes { IfOk result (λ bytes. option_map (λ b. b.items) bytes ≡ content self.old.files path.now) }
+    pub fn read(&mut self, alloc: Global, path: &RelPath) -> Result<Option<Bytes>, Memory>
+        ensures bytes { IfOk result (λ bytes. bytes ≡ content self.old.files path.now) }
         ensures files { self.new.files ≡ self.old.files }
         ensures made { self.new.changes ≡ [] }
     {
         self.settle();
-        copied(alloc, self.tree().get(path))
+        copy_content(alloc, self.tree().get(path))
     }
 
     /// Whether nothing is at, above or under the path. Makes all changes.
@@ -121,7 +119,7 @@ impl LazyTree {
         ensures ok { OnOk result (self.new.files ≡ put_file self.old.files path.now bytes.now) }
         ensures err { OnErr result (self.new.files ≡ self.old.files) }
     {
-        let copy = Bytes::new(bytes.to_vec(self.alloc)?);
+        let copy = copy_bytes(self.alloc, bytes)?;
         self.change(path.duplicate(self.alloc)?, Some(copy))
     }
 
@@ -175,15 +173,6 @@ impl LazyTree {
         self.tree.reserve(room)?;
         self.changes.push((path, content))?;
         Ok(())
-    }
-}
-
-fn copied(alloc: Global, bytes: Option<&[u8]>) -> Result<Option<Vec<u8>>, Memory>
-    ensures { IfOk result (λ copy. option_map (λ b. b.items) copy ≡ option_copied bytes.entry) }
-{
-    match bytes {
-        Some(bytes) => Ok(Some(bytes.to_vec(alloc)?)),
-        None => Ok(None),
     }
 }
 

@@ -5,7 +5,6 @@ mod area;
 mod areas;
 mod call;
 mod changes;
-mod copies;
 mod counts;
 mod disk;
 mod draft;

@@ -6,12 +6,12 @@ ghost use Rattle.wse_disk.specs.Causes.{HasReadCause};
 ghost use Rattle.wse_disk.specs.Reading.{area_of};
 ghost use Rattle.wse_disk.specs.Reading.Write.{Stores, Erases, Patches};
 ghost use Rattle.wse_disk.specs.Calls.{bytes_or_none};
-ghost use Rattle.wse_disk.specs.Standing.{Writes, Syncs, IsImageOf};
+ghost use Rattle.wse_disk.specs.Standing.{WriteLeaves, SyncLeaves, IsImageOf};
 ghost use Rattle.wse_disk.specs.CallCounts.{uncalled, next_fails, finished};
 ghost use Rattle.wse_disk.specs.Replay.{held, drafted, first_of, replay, pending_at, with_all};
 ghost use Rattle.wse_disk.specs.Chosen.{IsChosen};
 ghost use Rattle.wse_disk.specs.Told.{IsAtRest};
-ghost use Rattle.wse_disk.specs.MemState.{reading, standing, IsSound, IsSound-prop, IsUnchanged, CountsOnly, Notes};
+ghost use Rattle.wse_disk.specs.MemState.{reading, standing, KeepsImages, KeepsImages-prop, IsUnchanged, CountsOnly, Notes};
 
 use crate::area::Area;
 use crate::areas::Areas;
@@ -24,7 +24,7 @@ use crate::lazy::LazyTree;
 use crate::notes::{erase_noted, keep_first, patch_noted, store_noted, sync_noted};
 use std::alloc::Global;
 use std::marker::Model;
-use wse_path::{Memory, RelPath, Tree};
+use wse_path::{Bytes, Memory, RelPath, Tree};
 
 /// A disk in memory, which tells all. Each call of `Disk` and `Place` but `moment` is counted, and fails where its number
 /// is in a list; a store, an erase, an area write and a sync fail for want of memory too. It keeps a record of these four,
@@ -39,7 +39,7 @@ pub struct MemDisk {
     areas: Areas,
     calls: Vec<Call>,
     counts: CallCounts,
-    ghost sound: { IsSound (first_of first (held files.files areas)) calls.items } by { IsSound-prop _ _ },
+    ghost sound: { KeepsImages (first_of first (held files.files areas)) calls.items } by { KeepsImages-prop _ _ },
 }
 
 impl Model for MemDisk {
@@ -119,7 +119,7 @@ impl MemDisk {
 
     /// Whether a file may be stored or erased at the path: it is there, or nothing is above or under it. Takes no memory.
     pub fn has_room(&mut self, path: &RelPath) -> bool
-        ensures room { result ≡ true → HasRoom (reading self.new).files path.now }
+        ensures room { IsTrue result ↔ HasRoom (reading self.new).files path.now }
         ensures same { IsUnchanged self.old self.new }
     {
         self.read_size(path).is_some() || self.fits(path)
@@ -218,8 +218,8 @@ impl MemDisk {
         self.files.size(path)
     }
 
-    fn read_file(&mut self, alloc: Global, path: &RelPath) -> Result<Option<Vec<u8>>, Memory>
-        ensures bytes { IfOk result (λ bytes. option_map (λ b. b.items) bytes ≡ content (reading self.old).files path.now) }
+    fn read_file(&mut self, alloc: Global, path: &RelPath) -> Result<Option<Bytes>, Memory>
+        ensures bytes { IfOk result (λ bytes. bytes ≡ content (reading self.old).files path.now) }
         ensures same { IsUnchanged self.old self.new }
     {
         self.files.read(alloc, path)
@@ -344,7 +344,7 @@ impl Disk for MemDisk {
         self.begin()?;
         match self.read_file(alloc, path)? {
             Some(bytes) => {
-                *into = bytes;
+                *into = bytes.into_vec();
                 Ok(true)
             }
             None => {
@@ -356,7 +356,7 @@ impl Disk for MemDisk {
 
     fn store(&mut self, path: &RelPath, bytes: &[u8]) -> Result<(), Failed>
         requires { HasRoom (reading self.old).files path.now }
-        ensures writes { Writes (Stores path.now bytes.now) result (standing self.old) (standing self.new) }
+        ensures writes { WriteLeaves (Stores path.now bytes.now) result (standing self.old) (standing self.new) }
         ensures later { length self.old.calls ≤ length self.new.calls }
         ensures cause { HasCause self.old.counts.faults self.new.counts.faults result }
         ensures noted { (no_memory : Bool)
@@ -368,7 +368,7 @@ impl Disk for MemDisk {
     }
 
     fn erase(&mut self, path: &RelPath) -> Result<(), Failed>
-        ensures writes { Writes (Erases path.now) result (standing self.old) (standing self.new) }
+        ensures writes { WriteLeaves (Erases path.now) result (standing self.old) (standing self.new) }
         ensures later { length self.old.calls ≤ length self.new.calls }
         ensures cause { HasCause self.old.counts.faults self.new.counts.faults result }
         ensures noted { (no_memory : Bool)
@@ -407,7 +407,7 @@ impl Disk for MemDisk {
 
     fn area_write(&mut self, area: Area, at: u64, bytes: &[u8]) -> Result<(), Failed>
         requires { at ≤ length (area_of area (reading self.old)) }
-        ensures writes { Writes (Patches area at bytes.now) result (standing self.old) (standing self.new) }
+        ensures writes { WriteLeaves (Patches area at bytes.now) result (standing self.old) (standing self.new) }
         ensures bounded { OnOk result (at + length bytes.now < 2 ^ 63) }
         ensures later { length self.old.calls ≤ length self.new.calls }
         ensures cause { HasCause self.old.counts.faults self.new.counts.faults result }
@@ -420,7 +420,7 @@ impl Disk for MemDisk {
     }
 
     fn sync(&mut self) -> Result<(), Failed>
-        ensures syncs { Syncs result (standing self.old) (standing self.new) }
+        ensures syncs { SyncLeaves result (standing self.old) (standing self.new) }
         ensures later { length self.old.calls ≤ length self.new.calls }
         ensures cause { HasCause self.old.counts.faults self.new.counts.faults result }
         ensures noted { (no_memory : Bool)

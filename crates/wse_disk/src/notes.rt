@@ -7,10 +7,10 @@ ghost use Rattle.wse_disk.specs.Replay.{held, first_of, laid};
 use crate::area::Area;
 use crate::areas::Areas;
 use crate::call::Call;
-use crate::draft::{Draft, copy_of};
+use crate::draft::Draft;
 use crate::lazy::LazyTree;
 use std::alloc::Global;
-use wse_path::{Duplicate, Memory, RelPath};
+use wse_path::{Duplicate, Memory, RelPath, copy_bytes};
 
 /// Keeps apart what is held, unless that was done before.
 pub fn keep_first(
@@ -54,7 +54,7 @@ pub fn store_noted(
     calls.reserve(1)?;
     let call = Call::Store {
         path: path.duplicate(alloc)?,
-        bytes: copy_of(alloc, bytes)?,
+        bytes: copy_bytes(alloc, bytes)?,
         failed,
     };
     if failed {
@@ -113,7 +113,7 @@ pub fn patch_noted(
     let call = Call::Patch {
         area,
         at,
-        bytes: copy_of(alloc, bytes)?,
+        bytes: copy_bytes(alloc, bytes)?,
         failed,
     };
     if failed {

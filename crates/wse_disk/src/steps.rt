@@ -4,7 +4,7 @@ ghost use Rattle.wse_path.specs.Causes.{HasCause};
 ghost use Rattle.wse_disk.specs.Reading.Write.{Patches};
 ghost use Rattle.wse_disk.specs.Image.{IsTorn};
 ghost use Rattle.wse_disk.specs.Told.{IsAtRest, IsSynced, reading_of};
-ghost use Rattle.wse_disk.specs.Calls.{IsPatchable, HasWritten};
+ghost use Rattle.wse_disk.specs.Calls.{IsPatchable, HasApplied};
 ghost use Rattle.wse_disk.specs.LeavesOnly.{LeavesOnly};
 
 use crate::area::Area;
@@ -14,7 +14,7 @@ use crate::disk::{Disk, Failed};
 /// for the places that are written and what is behind the area's end.
 pub fn write_synced<D: Disk>(disk: &mut D, area: Area, at: u64, bytes: &[u8]) -> Result<(), Failed>
     requires { IsPatchable (D.told disk.old) area at bytes.now }
-    ensures written { OnOk result (HasWritten (Patches area at bytes.now) (D.told disk.old) (D.told disk.new)) }
+    ensures written { OnOk result (HasApplied (Patches area at bytes.now) (D.told disk.old) (D.told disk.new)) }
     ensures synced { OnOk result (IsSynced (D.told disk.new)) }
     ensures rests { OnOk result (IsAtRest (D.told disk.new)) }
     ensures during { IsAtRest (D.told disk.old)

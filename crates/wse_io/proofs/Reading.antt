@@ -3,7 +3,7 @@ use Rattle.std.proofs.Common.{◌≡◌, ◌≢◌, ◌⊎◌, inl, inr, ⊎_eli
 use Rattle.std.proofs.lemmas.List.{append-nil}
 use Rattle.wse_io.specs.Stream.{Takes}
 use Rattle.wse_io.specs.Lines.{is_line_end, lines, Cuts}
-use Rattle.wse_io.specs.Reader.{Reader, is_over, IsAfter, IsSound, Fills, HandsOut, Given, Repeats, Hands}
+use Rattle.wse_io.specs.Reader.{Reader, is_over, IsAfter, IsReader, Fills, HandsOut, Given, Repeats, Hands, AsksInNeed}
 use Rattle.wse_io.specs.declared.lines.Ahead.{Ahead}
 use Rattle.wse_io.specs.declared.lines.Ahead.TheVariants.{Open, Over, Failed}
 use Rattle.wse_io.specs.declared.lines.Line.{Line}
@@ -86,10 +86,10 @@ so_far_none left r = record {
 }
 
 -- A reader by its parts is the one that they are of.
-pub same_reader : (left_old left_now : Option (List ℕ)) (old now parts : Reader) (held read : List ℕ) → parts ≡ now → held ≡ parts.held → IsSound parts → SoFar left_old left_now old now read → SoFar left_old left_now old (record parts { held = held }) read × IsSound (record parts { held = held })
+pub same_reader : (left_old left_now : Option (List ℕ)) (old now parts : Reader) (held read : List ℕ) → parts ≡ now → held ≡ parts.held → IsReader parts → SoFar left_old left_now old now read → SoFar left_old left_now old (record parts { held = held }) read × IsReader (record parts { held = held })
 same_reader left_old left_now old now parts held read same kept sound so =
     let is : parts ≡ record parts { held = held } = ap (λ h. record parts { held = h }) (sym kept) in
-    (subst (λ r. SoFar left_old left_now old r read) (sym same ∙ is) so, subst IsSound is sound)
+    (subst (λ r. SoFar left_old left_now old r read) (sym same ∙ is) so, subst IsReader is sound)
 
 after_within : (ahead : Ahead) (limit taken : ℕ) → IsAfter ahead limit taken → taken ≤ limit + 1
 after_within Open limit taken h = omega arith
@@ -112,7 +112,7 @@ none_or_some : (xs : List ℕ) → (xs ≡ []) ⊎ (0 < length xs)
 none_or_some [] = inl refl
 none_or_some (x ∷ xs) = inr (omega arith)
 
-module _ (left_old left_now : Option (List ℕ)) (old now : Reader) (read : List ℕ) (so : SoFar left_old left_now old now read) (sound : IsSound now) where
+module _ (left_old left_now : Option (List ℕ)) (old now : Reader) (read : List ℕ) (so : SoFar left_old left_now old now read) (sound : IsReader now) where
   -- What was taken of the first bytes and not handed out when the call began.
   abbrev bytes : List ℕ
   bytes = old.held ++ take (old.max_input - old.taken) read
@@ -211,3 +211,17 @@ module _ (left_old left_now : Option (List ℕ)) (old now : Reader) (read : List
   -- A fault is known, and no line end is held.
   pub hands_fault : (fault : LineFault) → now.ahead ≡ Failed fault → NoEnd now.held → Hands left_old left_now old now read (Err fault)
   hands_fault fault is none = hands_of now (Err fault) refl refl (inl refl) (given_fault fault is none) (subst (λ a. Repeats a now.held (Err fault)) (sym is) (λ _. refl))
+
+-- A read begins where no line is held whole.
+in_need : (left_old left_now left_before : Option (List ℕ)) (old now : Reader) (read : List ℕ) → SoFar left_old left_now old now read → now.ahead ≡ Open → NoEnd now.held → left_before ≡ left_now → AsksInNeed left_old left_before old
+in_need left_old left_now left_before old now read so is_open none began = (
+  read,
+  subst (λ (l : Option (List ℕ)). Takes left_old l read) (sym began) so.takes,
+  ap (λ l. lines l false) (sym (so.held (λ failed. let e = sym is_open ∙ failed in cc))) ∙ lines_open now.held none,
+)
+
+-- One read more, or none.
+pub waits_more : {S : Type 0} (left before : S → Option (List ℕ)) (start mid new : S) (old now : Reader) (read : List ℕ) → SoFar (left start) (left mid) old now read → now.ahead ≡ Open → NoEnd now.held
+    → (mid ≡ start) ⊎ AsksInNeed (left start) (before mid) old → (new ≡ mid) ⊎ (before new ≡ left mid) → (new ≡ start) ⊎ AsksInNeed (left start) (before new) old
+waits_more left before start mid new old now read so is_open none was (inl same) = subst (λ s. (s ≡ start) ⊎ AsksInNeed (left start) (before s) old) (sym same) was
+waits_more left before start mid new old now read so is_open none was (inr began) = inr (in_need (left start) (left mid) (before new) old now read so is_open none began)

@@ -4,9 +4,11 @@ use Rattle.wse_disk.specs.CallCounts.{CallState}
 use Rattle.wse_io.specs.Stream.{Piece}
 use Rattle.wse_io.specs.declared.mem.Mark.{Mark}
 
--- A source in memory as contracts see it: the bytes left, how many a read gives at most, and the counts of its reads.
+-- A source in memory as contracts see it: the bytes left, those that were left when the last read began, how many a read
+-- gives at most, and the counts of its reads.
 pub record MemSourceState : Type 0 where
   pub left : List ℕ
+  pub before : List ℕ
   pub chunk : ℕ
   pub counts : CallState
 

@@ -32,7 +32,7 @@ IsAfter (Failed Memory) limit taken = taken ≤ limit + 1
 IsAfter ahead limit taken = taken ≤ limit
 
 -- What holds of each reader: its limit's range, how much was taken, and that nothing is held after want of memory.
-pub record IsSound (r : Reader) : Type 0 where
+pub record IsReader (r : Reader) : Type 0 where
   pub some : 1 ≤ r.max_input
   pub countable : r.max_input ≤ 2 ^ 62
   pub after : IsAfter r.ahead r.max_input r.taken
@@ -81,3 +81,9 @@ pub record Hands (left_old left_new : Option (List ℕ)) (old new : Reader) (rea
   pub ended : old.ahead ≡ Open → new.ahead ≡ Over → IfSome left_new (λ rest. rest ≡ [])
   pub given : Given result (old.held ++ take (old.max_input - old.taken) read) new
   pub repeats : Repeats old.ahead old.held result
+
+-- The last read of a call began when these bytes had been taken in it, and no line was held whole by then. As lines only
+-- come, this was so at each read of the call.
+abbrev pub AsksInNeed : (left_old left_before : Option (List ℕ)) → Reader → Type 0
+AsksInNeed left_old left_before old =
+    (front : List ℕ) × Takes left_old left_before front × (lines (old.held ++ take (old.max_input - old.taken) front) false ≡ [])

@@ -7,9 +7,10 @@ use crate::sink::Sink;
 use crate::source::Source;
 use std::io::{Read, Write};
 
-/// A source in memory tells the bytes that `left` gives, and counts the faults that `faults` gives.
+/// A source in memory tells the bytes that `left` and `left_before` give, and counts the faults that `faults` gives.
 pub fn mem_source_tells(source: &MemSource)
     ensures left { ⟦<MemSource as Source>⟧.left source.now ≡ Some source.now.left }
+    ensures before { ⟦<MemSource as Source>⟧.left_before source.now ≡ Some source.now.before }
     ensures faults { ⟦<MemSource as Source>⟧.faults source.now ≡ source.now.counts.faults }
 {}
 

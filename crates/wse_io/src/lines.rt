@@ -3,7 +3,7 @@ ghost use Rattle.std.specs.Prelude.{◌≡◌, ◌≢◌, ◌⊎◌, ◌^◌, �
 ghost use Rattle.wse_path.specs.Causes.{Rose, HasCause};
 ghost use Rattle.wse_io.specs.Stream.{Takes, read_by};
 ghost use Rattle.wse_io.specs.Lines.{lines};
-ghost use Rattle.wse_io.specs.Reader.{Hands, HandsOut, Fills};
+ghost use Rattle.wse_io.specs.Reader.{Hands, HandsOut, Fills, AsksInNeed};
 
 use crate::held::Held;
 use crate::source::{ReadFailed, Source};
@@ -58,13 +58,13 @@ pub struct Lines {
 }
 
 impl Model for Lines {
-    ghost use Rattle.wse_io.specs.Reader.{Reader, IsSound};
+    ghost use Rattle.wse_io.specs.Reader.{Reader, IsReader};
 
     ghost Value = { Reader };
 
     ghost view = { λ a. record { max_input = a.max_input; taken = a.taken; held = a.held; ahead = a.ahead } };
 
-    ghost invariant = { λ a. IsSound (record { max_input = a.max_input; taken = a.taken; held = a.held; ahead = a.ahead }) };
+    ghost invariant = { λ a. IsReader (record { max_input = a.max_input; taken = a.taken; held = a.held; ahead = a.ahead }) };
 }
 
 impl Lines {
@@ -96,6 +96,8 @@ impl Lines {
         // Nothing is read where a line is held whole, and where the end or a fault is known.
         ensures ready { lines self.old.held false ≢ [] → source.new ≡ source.old }
         ensures settled { self.old.ahead ≢ Ahead.Open → source.new ≡ source.old }
+        // Each read of the call begins where no line is held whole.
+        ensures waits { (source.new ≡ source.old) ⊎ AsksInNeed (S.left source.old) (S.left_before source.new) self.old }
 
         ensures later { S.faults source.old ≤ S.faults source.new }
         // The count rises only in a call that answers a fault of the source.
@@ -120,6 +122,7 @@ impl Lines {
     fn fill<S: Source>(&mut self, source: &mut S)
         requires { self.old.ahead ≡ Ahead.Open }
         ensures fills { (read : List ℕ) × Fills (S.left source.old) (S.left source.new) self.old self.new read }
+        ensures began { (source.new ≡ source.old) ⊎ (S.left_before source.new ≡ S.left source.old) }
         ensures later { S.faults source.old ≤ S.faults source.new }
         ensures kept { self.new.ahead ≢ Ahead.Failed LineFault.Read → S.faults source.new ≡ S.faults source.old }
         ensures cause { self.new.ahead ≡ Ahead.Failed LineFault.Read → Rose (S.faults source.old) (S.faults source.new) }
@@ -188,6 +191,7 @@ fn read_front<S: Source>(source: &mut S, chunk: &mut [u8], most: u64) -> Result<
     requires made { 0 < length chunk.old }
     ensures count { IfOk result (λ n. (n ≤ most) × (n ≤ length chunk.old)) }
     ensures taken { Takes (S.left source.old) (S.left source.new) (read_by result chunk.new) }
+    ensures began { S.left_before source.new ≡ S.left source.old }
     ensures ended { IfOk result (λ n. n ≡ 0 → IfSome (S.left source.new) (λ rest. rest ≡ [])) }
     ensures cause { HasCause (S.faults source.old) (S.faults source.new) result }
 {

@@ -18,6 +18,8 @@ use wse_path::Memory;
 pub struct MemSource {
     bytes: Vec<u8>,
     at: usize,
+    // Where the last read began.
+    began: usize,
     chunk: usize,
     counts: CallCounts,
 }
@@ -28,9 +30,9 @@ impl Model for MemSource {
 
     ghost Value = { MemSourceState };
 
-    ghost view = { λ a. record { left = drop a.at a.bytes.items; chunk = a.chunk; counts = a.counts } };
+    ghost view = { λ a. record { left = drop a.at a.bytes.items; before = drop a.began a.bytes.items; chunk = a.chunk; counts = a.counts } };
 
-    ghost invariant = { λ a. (1 ≤ a.chunk) × (a.at ≤ length a.bytes.items) };
+    ghost invariant = { λ a. (1 ≤ a.chunk) × (a.at ≤ length a.bytes.items) × (a.began ≤ length a.bytes.items) };
 }
 
 impl MemSource {
@@ -38,12 +40,14 @@ impl MemSource {
     pub fn new(bytes: Vec<u8>, chunk: usize, fails: Vec<u64>) -> MemSource
         requires { 1 ≤ chunk }
         ensures left { result.left ≡ bytes.items }
+        ensures before { result.before ≡ bytes.items }
         ensures chunk { result.chunk ≡ chunk }
         ensures counts { result.counts ≡ uncalled fails.items }
     {
         MemSource {
             bytes,
             at: 0,
+            began: 0,
             chunk,
             counts: CallCounts::new(fails),
         }
@@ -54,6 +58,13 @@ impl MemSource {
         ensures { result.now ≡ self.now.left }
     {
         &self.bytes[self.at..]
+    }
+
+    /// The bytes that were left when the last read began, and at first all.
+    pub fn left_before(&self) -> &[u8]
+        ensures { result.now ≡ self.now.before }
+    {
+        &self.bytes[self.began..]
     }
 
     /// How many reads failed. It stops at 2^64-1.
@@ -67,6 +78,8 @@ impl MemSource {
 impl Source for MemSource {
     ghost left = { λ source. Some source.left };
 
+    ghost left_before = { λ source. Some source.before };
+
     ghost faults = { λ source. source.counts.faults };
 
     fn read(&mut self, buf: &mut [u8]) -> Result<usize, ReadFailed>
@@ -77,9 +90,11 @@ impl Source for MemSource {
 
         // As each source.
         ensures taken { Takes (Some self.old.left) (Some self.new.left) (read_by result buf.new) }
+        ensures began { self.new.before ≡ self.old.left }
         ensures ended { IfOk result (λ n. n ≡ 0 → 0 < length buf.old → self.new.left ≡ []) }
         ensures cause { HasCause self.old.counts.faults self.new.counts.faults result }
     {
+        self.began = self.at;
         if self.counts.call() {
             return Err(ReadFailed);
         }

@@ -13,6 +13,9 @@ pub trait Source {
     /// The bytes left, where they are told.
     ghost left: { Self → Option (List ℕ) } = { λ _. None };
 
+    /// The bytes that were left when the last read began, where they are told.
+    ghost left_before: { Self → Option (List ℕ) } = { λ _. None };
+
     /// How often it has failed.
     ghost faults: { Self → ℕ };
 
@@ -21,6 +24,7 @@ pub trait Source {
     fn read(&mut self, buf: &mut [u8]) -> Result<usize, ReadFailed>
         ensures count { IfOk result (λ n. n ≤ length buf.old) }
         ensures taken { Takes (left self.old) (left self.new) (read_by result buf.new) }
+        ensures began { left_before self.new ≡ left self.old }
         ensures ended { IfOk result (λ n. n ≡ 0 → 0 < length buf.old → IfSome (left self.new) (λ rest. rest ≡ [])) }
         ensures cause { HasCause (faults self.old) (faults self.new) result };
 }

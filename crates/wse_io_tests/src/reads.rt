@@ -35,3 +35,33 @@ fn a_failed_read_is_not_tried_again(rt: HostRuntime) -> Result<(), Fail> {
     assert!(rt; stops_at_a_fault(rt.alloc())?);
     Ok(())
 }
+
+// Each read gives a line. The second waits until the first was handed out.
+fn waits_for_each_line(alloc: Global) -> Result<bool, Fail> {
+    let source = MemSource::new(b"{}\n{}\n".to_vec(alloc)?, 3, Vec::new(alloc));
+    let mut counting = Counting { source, reads: 0 };
+    let mut lines = Lines::new(alloc, 1000, 1000);
+    let first = gives(&mut lines, &mut counting, &[b"{}"]) && counting.reads == 1;
+    let second = gives(&mut lines, &mut counting, &[b"{}"]) && counting.reads == 2;
+    Ok(first && second)
+}
+
+#[test]
+fn a_line_is_handed_out_before_more_is_read(rt: HostRuntime) -> Result<(), Fail> {
+    assert!(rt; waits_for_each_line(rt.alloc())?);
+    Ok(())
+}
+
+// The one read gives two lines.
+fn reads_once_for_two_lines(alloc: Global) -> Result<bool, Fail> {
+    let source = MemSource::new(b"{}\n{}\n".to_vec(alloc)?, 65536, Vec::new(alloc));
+    let mut counting = Counting { source, reads: 0 };
+    let mut lines = Lines::new(alloc, 1000, 1000);
+    Ok(gives(&mut lines, &mut counting, &[b"{}", b"{}"]) && counting.reads == 1)
+}
+
+#[test]
+fn lines_that_are_held_are_not_read_for(rt: HostRuntime) -> Result<(), Fail> {
+    assert!(rt; reads_once_for_two_lines(rt.alloc())?);
+    Ok(())
+}

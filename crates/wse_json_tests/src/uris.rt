@@ -145,6 +145,20 @@ fn no_other_text_is_a_root(rt: HostRuntime) {
     assert!(rt; are_no_roots(rt.alloc(), NO_ROOTS));
 }
 
+fn says_why(alloc: Global, text: &str, words: &str) -> Result<bool, Fail> {
+    match root_of(alloc, text) {
+        Ok(_) => Ok(false),
+        Err(why) => Ok(format!(in alloc; "{why}")?.as_str() == words),
+    }
+}
+
+#[test]
+fn why_a_text_is_no_root_is_shown(rt: HostRuntime) -> Result<(), Fail> {
+    let words = "not a file URL without host, query and fragment";
+    assert!(rt; says_why(rt.alloc(), "http://h/", words)?);
+    Ok(())
+}
+
 const ESCAPES: &str = "a b => file:///w/a%20b
 aZ09-._~ => file:///w/aZ09-._~
 é?#% => file:///w/%C3%A9%3F%23%25";

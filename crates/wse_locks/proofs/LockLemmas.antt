@@ -7,12 +7,12 @@ use Rattle.std.specs.FinMap.Entries.{below_all, same_entries}
 use Rattle.std.specs.Ordering.{eq_by_cmp, is_lt}
 use Rattle.std.proofs.lemmas.Cmp.{tied_back}
 use Rattle.std.proofs.lemmas.List.{append_assoc, length-take-le, take_more, drop_more, get_or_at}
-use Rattle.wse_path.specs.Order.{path_cmp}
+use Rattle.wse_path.specs.Order.{path_cmp, is_named}
 use Rattle.wse_path.specs.Path.{Path}
 use Rattle.wse_path.proofs.EntryLemmas.{and_parts, equal_so, to_so, below_tied}
 use Rattle.wse_path.proofs.MergeLemmas.{find_below}
 use Rattle.wse_path.proofs.PathOrder.{total, tied_path, same_path}
-use Rattle.wse_locks.specs.Locks.{Holders, holder, holds, is_another, is_participant, is_held, is_named, held}
+use Rattle.wse_locks.specs.Locks.{Holders, holder, holds, is_another, is_participant, is_held, held}
 
 -- the value, where it passes
 abbrev pub kept : {V : Type 0} → (V → Bool) → Option V → Option V

@@ -1,10 +1,8 @@
 -- Locks: finite maps from paths to the participants that hold them. This project's own rule.
 use Rattle.std.specs.Prelude.{◌≡◌, ◌≢◌, ℕ, Bool, true, false, not, ◌&&◌, nat_eq, List, [], map, filter, Option, Some, None, ⊤}
-use Rattle.std.specs.List.{list_any}
 use Rattle.std.specs.FinMap.{find, is_sorted}
-use Rattle.std.specs.Ordering.{eq_by_cmp}
 use Rattle.wse_path.specs.Path.{Path}
-use Rattle.wse_path.specs.Order.{path_cmp}
+use Rattle.wse_path.specs.Order.{path_cmp, is_named}
 use Rattle.wse_locks.specs.declared.refused.LockRefused.{LockRefused}
 use Rattle.wse_locks.specs.declared.refused.LockRefused.TheVariants.{Held, Memory}
 
@@ -36,10 +34,6 @@ is_another by (Some other) = not (nat_eq other by)
 -- Another participant holds the path.
 abbrev pub is_held : Holders → ℕ → Path → Bool
 is_held entries by p = is_another by (holder entries p)
-
--- The path is one of these.
-abbrev pub is_named : List Path → Path → Bool
-is_named files p = list_any (λ q. eq_by_cmp path_cmp p q) files
 
 -- The named paths that another holds, each once, in path order.
 abbrev pub held : Holders → ℕ → List Path → List Path

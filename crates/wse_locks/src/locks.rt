@@ -1,7 +1,8 @@
 // Who holds which path.
 ghost use Rattle.std.specs.Prelude.{◌≡◌, ◌+◌, ◌≤◌, ℕ, [], ◌∷◌, Some, None, not, ◌&&◌, position, length, map, filter, nat_eq, remove, slice_index_or, ◌<◌, if◌then◌else◌, IfOk, IfErr, OnOk, OnErr};
+ghost use Rattle.wse_path.specs.Order.{is_named};
 ghost use Rattle.wse_path.specs.Path.{Path};
-ghost use Rattle.wse_locks.specs.Locks.{Holders, holder, holds, is_held, is_named, held, TellsHeld};
+ghost use Rattle.wse_locks.specs.Locks.{Holders, holder, holds, is_held, held, TellsHeld};
 
 use crate::refused::{LockRefused, NotHeld};
 use std::alloc::Global;
@@ -39,17 +40,6 @@ fn copies(alloc: Global, files: &[RelPath]) -> Result<Vec<RelPath>, Memory>
         paths.push(file.duplicate(alloc)?)?;
     }
     Ok(paths)
-}
-
-/// The paths of the entries.
-fn paths_of(alloc: Global, entries: &[(RelPath, u32)]) -> Result<Files, Memory>
-    ensures { IfOk result (λ paths. paths ≡ map (λ e. e.0) entries.now) }
-{
-    let mut paths = Vec::with_capacity(alloc, entries.len())?;
-    for entry in entries {
-        paths.push(entry.0.duplicate(alloc)?)?;
-    }
-    Ok(Files::new(paths))
 }
 
 /// Gives the paths to the participant, in room that is there.
@@ -149,7 +139,7 @@ impl Locks {
         for file in files {
             self.note_held(alloc, by, file, &mut others)?;
         }
-        paths_of(alloc, others.as_slice())
+        others.paths(alloc)
     }
 
     /// Gives the participant all of these paths, or none where another holds one. One's own may be taken again. After a

@@ -14,7 +14,3 @@ pub mod ChangeLemmas
 pub mod GatheredLemmas
 pub mod SetLemmas
 pub mod LeadLemmas
-pub mod AboveLemmas
-pub mod ShownLemmas
-pub mod MergedLemmas
-pub mod RangeLemmas

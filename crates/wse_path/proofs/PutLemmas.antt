@@ -1,7 +1,9 @@
 -- Entries put one after another, and what is found among them.
-use Rattle.std.proofs.Common.{◌≡◌, Bool, true, false, cond, ◌||◌, List, [], ◌∷◌, map, Option, Some, None, refl, sym, ap, ◌∙◌}
+use Rattle.std.proofs.Common.{◌≡◌, Bool, true, false, cond, ◌&&◌, ◌||◌, List, [], ◌∷◌, map, Option, Some, None, refl, sym, ap, ◌∙◌}
 use Rattle.std.specs.Prelude.{is_some}
 use Rattle.std.specs.List.{AllByRecursion}
+use Rattle.std.specs.List.Sorted.{IsStrictlySortedBy}
+use Rattle.std.specs.Map.{keys_of}
 use Rattle.std.specs.FinMap.{find, put, is_sorted}
 use Rattle.std.specs.FinMap.Entries.{find-put, find-where_key, is_sorted-put, is_sorted-where_key, where_key, below_all}
 use Rattle.std.specs.Cmp.Lexicographic.{lists_total, nat_list_cmp_total}
@@ -12,7 +14,7 @@ use Rattle.std.specs.FinMap.Entries.{by_order}
 use Rattle.wse_path.specs.Path.{Path}
 use Rattle.wse_path.specs.Order.{path_cmp}
 use Rattle.wse_path.specs.Tree.{Entries, is_present, put_all}
-use Rattle.wse_path.specs.Overlay.{put_each}
+use Rattle.wse_path.specs.PathMap.{put_each}
 use Rattle.wse_path.proofs.EntryLemmas.{and_parts, less_so, so, to_so}
 use Rattle.wse_path.proofs.TreeLemmas.{same_path, tied_itself}
 
@@ -113,3 +115,14 @@ has_put_each (x ∷ xs) es q =
 
 pub has_put_all : (xs es : Entries) (q : Path) → is_present (put_all xs es) q ≡ (is_present es q || is_present xs q)
 has_put_all xs es q = ap (λ l. is_present l q) (put_all_is xs es) ∙ has_put_each xs es q
+
+-- ---- the order of a map of std
+
+below_ordered : {X : Type 0} (x : Path) (es : List (Path × X)) → AllByRecursion (λ y. path_cmp x y ≡ Less) (keys_of es) → below_all path_cmp x es ≡ true
+below_ordered x [] all = refl
+below_ordered x (e ∷ es) all = ap (λ o. is_lt o && below_all path_cmp x es) all.0 ∙ below_ordered x es all.1
+
+pub sorted_ordered : {X : Type 0} (es : List (Path × X)) → IsStrictlySortedBy path_cmp (keys_of es) → is_sorted path_cmp es ≡ true
+unfolding IsStrictlySortedBy
+sorted_ordered [] o = refl
+sorted_ordered (e ∷ es) o = ap (λ b. b && is_sorted path_cmp es) (below_ordered e.0 es o.0) ∙ sorted_ordered es o.1

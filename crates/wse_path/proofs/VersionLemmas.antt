@@ -1,10 +1,11 @@
 -- Versions that are raised, path by path.
-use Rattle.std.proofs.Common.{◌≡◌, ℕ, ◌+◌, ◌-◌, ◌^◌, ◌≤◌, min, true, List, [], ◌∷◌, Option, Some, refl, sym, ap, subst, ◌∙◌, arith}
+use Rattle.std.proofs.Common.{◌≡◌, ℕ, ◌+◌, ◌-◌, ◌^◌, ◌<◌, ◌≤◌, min, true, List, [], ◌∷◌, Option, Some, refl, sym, ap, subst, ◌∙◌, arith}
 use Rattle.std.specs.FinMap.{put, is_sorted}
-use Rattle.std.specs.FinMap.Entries.{below_all}
+use Rattle.std.specs.FinMap.Entries.{below_all, by_order}
 use Rattle.std.specs.List.{AllByRecursion}
 use Rattle.std.specs.Option.{unwrap_or}
 use Rattle.std.specs.Ordering.{is_lt}
+use Rattle.std.specs.declared.cmp.Ordering.TheVariants.{Less, Equal, Greater}
 use Rattle.wse_path.specs.Order.{path_cmp}
 use Rattle.wse_path.specs.Path.{Path}
 use Rattle.wse_path.specs.PathMap.{update_all}
@@ -40,3 +41,23 @@ bumped_by_is (b ∷ bs) entries s all =
     let parts = and_parts (below_all path_cmp b.0 bs) (is_sorted path_cmp bs) s in
     ap (λ n. update_all added bs (put path_cmp b.0 n entries)) (not_at_end (version_of entries b.0 + b.1) all.0)
     ∙ bumped_by_is bs (bumped entries b.0 b.1) parts.1 (small_kept bs entries b.0 b.1 parts.0 all.1)
+
+-- the number is above 0
+abbrev pub IsSome : Path × ℕ → Type 0
+IsSome e = 0 < e.1
+
+some_put : (entries : Numbers) (p : Path) (n : ℕ) → 0 < n → AllByRecursion IsSome entries → AllByRecursion IsSome (put path_cmp p n entries)
+some_put [] p n some all = (some, tt)
+some_put (e ∷ es) p n some all =
+    elim (path_cmp p e.0) as (λ r. AllByRecursion IsSome (by_order r ((p, n) ∷ e ∷ es) ((e.0, n) ∷ es) (e ∷ put path_cmp p n es))) [
+      | Less ↦ (some, all)
+      | Equal ↦ (some, all.1)
+      | Greater ↦ (all.0, some_put es p n some all.1)
+    ]
+
+pub some_bumped : (entries : Numbers) (p : Path) (by : ℕ) → 0 < by → AllByRecursion IsSome entries → AllByRecursion IsSome (bumped entries p by)
+some_bumped entries p by some all = some_put entries p (version_of entries p + by) (omega (arith, some)) all
+
+pub some_bumped_by : (bs : List (Path × ℕ)) (entries : Numbers) → AllByRecursion IsSome bs → AllByRecursion IsSome entries → AllByRecursion IsSome (bumped_by bs entries)
+some_bumped_by [] entries some all = all
+some_bumped_by (b ∷ bs) entries some all = some_bumped_by bs (bumped entries b.0 b.1) some.1 (some_bumped entries b.0 b.1 some.0 all)

@@ -6,7 +6,6 @@ pub mod Order
 pub mod Tree
 pub mod Causes
 pub mod Changes
-pub mod Overlay
 pub mod Versions
 pub mod Label
 pub mod Limits

@@ -38,6 +38,11 @@ abbrev pub set_value : {V : Type 0} → List (Path × V) → Path → Option V �
 set_value entries p None = without entries p
 set_value entries p (Some v) = put path_cmp p v entries
 
+-- All of these put, one after another.
+abbrev pub put_each : {X : Type 0} → List (Path × X) → List (Path × X) → List (Path × X)
+put_each [] entries = entries
+put_each (e ∷ more) entries = put_each more (put path_cmp e.0 e.1 entries)
+
 -- Each path gets what its item makes of the value there, one after another.
 abbrev pub update_all : {C V : Type 0} → (C → Option V → Option V) → List (Path × C) → List (Path × V) → List (Path × V)
 update_all updated [] entries = entries

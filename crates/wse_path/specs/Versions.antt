@@ -1,5 +1,5 @@
 -- Versions of paths: finite maps from paths to numbers.
-use Rattle.std.specs.Prelude.{◌≡◌, ℕ, ◌+◌, ◌-◌, ◌^◌, min, true, List, [], ◌∷◌, length, sum_by}
+use Rattle.std.specs.Prelude.{◌≡◌, ℕ, ◌+◌, ◌-◌, ◌^◌, ◌<◌, min, true, List, [], ◌∷◌, length, All, sum_by}
 use Rattle.std.specs.FinMap.{find, put, is_sorted}
 use Rattle.std.specs.Option.{unwrap_or}
 use Rattle.std.specs.Prelude.{Bool, nat_eq, ◌&&◌}
@@ -12,10 +12,11 @@ use Rattle.wse_path.specs.Order.{path_cmp}
 abbrev pub Numbers : Type 0
 Numbers = List (Path × ℕ)
 
--- The entries, that their paths rise, and how many more find room without taking memory.
+-- The entries, that their paths rise and no number is 0, and how many more find room without taking memory.
 pub record VersionsState : Type 0 where
   pub entries : Numbers
   pub rises : is_sorted path_cmp entries ≡ true
+  pub some : All (λ e. 0 < e.1) entries
   pub spare : ℕ
 
 -- The version of a path: 0 where it has no entry.

@@ -3,7 +3,8 @@ use crate::edit::Edit;
 use crate::items::{Bytes, Files};
 use crate::path::RelPath;
 
-/// What is to become of an edit of several files that can be split, where it is to be undone or redone at one of them.
+/// What is to become of an edit of several files that can be split, where it is to be undone at one of them. A redo
+/// ignores it.
 #[derive(Drop)]
 pub enum Choice {
     /// It is moved at all its files.

@@ -3,17 +3,14 @@
 
 mod change;
 mod command;
-mod contents;
-mod difference;
+mod content;
 mod edit;
 mod items;
 mod label;
 mod limits;
-mod lookups;
 mod memory;
 mod merge;
 mod operation;
-mod overlay;
 mod path;
 mod path_map;
 mod path_text;
@@ -25,7 +22,7 @@ mod versions;
 
 pub use change::{Bumps, Change, Changes, Numbered};
 pub use command::{Choice, Command, Direction};
-pub use contents::Contents;
+pub use content::{content_slice, copy_bytes, copy_content, is_same_content};
 pub use edit::{Edit, Edits, FailureKind, Operation, Operations, What};
 pub use items::{Bytes, Duplicate, Files, Items};
 pub use label::Label;
@@ -33,7 +30,6 @@ pub use limits::{Hit, Limits, Which};
 pub use memory::Memory;
 pub use merge::Update;
 pub use operation::ResourceOp;
-pub use overlay::Overlay;
 pub use path::{PathRefused, RelPath};
 pub use path_map::PathMap;
 pub use path_text::TextRefused;

@@ -6,7 +6,7 @@ ghost use Rattle.wse_path.specs.Order.{path_cmp};
 ghost use Rattle.wse_path.specs.PathMap.{weight_of, capped, value_at, without, set_value, update_all};
 ghost use Rattle.wse_path.specs.Place.{HasKeyAt, IsGapAt, all_before};
 
-use crate::items::Duplicate;
+use crate::items::{Duplicate, Files};
 use crate::memory::Memory;
 use crate::merge::{Update, restore, set_each, unload};
 use crate::path::RelPath;
@@ -101,6 +101,17 @@ impl<V: Weighed> PathMap<V> {
             Some(entry) => Some(&entry.0),
             None => None,
         }
+    }
+
+    /// The paths of all entries, in path order.
+    pub fn paths(&self, alloc: Global) -> Result<Files, Memory>
+        ensures { IfOk result (λ paths. paths ≡ map (λ e. e.0) self.now.entries) }
+    {
+        let mut paths = Vec::with_capacity(alloc, self.len())?;
+        for entry in self.as_slice() {
+            paths.push(entry.0.duplicate(alloc)?)?;
+        }
+        Ok(Files::new(paths))
     }
 
     /// Where the path stands among the entries, or would stand.

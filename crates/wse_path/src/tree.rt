@@ -1,5 +1,5 @@
 // Trees: paths with their bytes, no path under another.
-ghost use Rattle.std.specs.Prelude.{◌≡◌, ◌+◌, ◌<◌, ◌≤◌, [], true, length, map, IfOk, OnOk, OnErr, slice_get};
+ghost use Rattle.std.specs.Prelude.{◌≡◌, ◌+◌, ◌<◌, ◌≤◌, [], true, Some, length, map, IfOk, OnOk, OnErr, slice_get};
 ghost use Rattle.std.specs.FinMap.{is_sorted};
 ghost use Rattle.std.specs.Option.{option_copied};
 ghost use Rattle.wse_path.specs.Order.{path_cmp};
@@ -77,6 +77,22 @@ impl Tree {
         }
     }
 
+    /// The path and the bytes of the file with that index in path order.
+    pub fn file_at(&self, index: usize) -> (&RelPath, &[u8])
+        requires { index < length self.now.files }
+        ensures { slice_get self.now.files index ≡ Some (result.0.now, result.1.now) }
+    {
+        let entry = &self.map.as_slice()[index];
+        (&entry.0, entry.1.as_slice())
+    }
+
+    /// The paths of all files, in path order.
+    pub fn paths(&self, alloc: Global) -> Result<Files, Memory>
+        ensures { IfOk result (λ paths. paths ≡ map (λ e. e.0) self.now.files) }
+    {
+        self.map.paths(alloc)
+    }
+
     /// The bytes at the path. Takes no memory.
     pub fn get(&self, path: &RelPath) -> Option<&[u8]>
         ensures { option_copied result ≡ content self.now.files path.now }
@@ -87,8 +103,8 @@ impl Tree {
         }
     }
 
-    // The entries that come behind the path.
-    pub(crate) fn behind(&self, path: &RelPath) -> &[(RelPath, Bytes)]
+    /// The entries that come behind the path.
+    pub fn behind(&self, path: &RelPath) -> &[(RelPath, Bytes)]
         ensures { result.now ≡ entries_behind self.now.files path.now }
     {
         let entries = self.map.as_slice();

@@ -11,10 +11,11 @@ use crate::path_map::PathMap;
 use std::alloc::Global;
 use std::marker::Model;
 
-/// A finite map from paths to version numbers. Contracts see its entries in path order, that their paths rise, and how
-/// many more find room without taking memory.
+/// A finite map from paths to version numbers above 0. Contracts see its entries in path order, that their paths rise and
+/// no number is 0, and how many more find room without taking memory.
 pub struct Versions {
     map: PathMap<u32>,
+    ghost some: { All (λ e. 0 < e.1) map.entries },
 }
 
 // Written out, so that who drops one takes a single step.
@@ -30,7 +31,7 @@ impl Model for Versions {
 
     ghost Value = { VersionsState };
 
-    ghost view = { λ a. record { entries = a.map.entries; rises = a.map.rises; spare = a.map.spare } };
+    ghost view = { λ a. record { entries = a.map.entries; rises = a.map.rises; some = a.some; spare = a.map.spare } };
 }
 
 impl Versions {
@@ -105,10 +106,10 @@ impl Versions {
     }
 
     /// Raises the versions of these paths, in room that is there. Takes no memory. It costs a search
-    /// for each path; where more than a few are new, one pass over the entries from the first of them on. By 0 a path
-    /// without an entry gets one.
+    /// for each path; where more than a few are new, one pass over the entries from the first of them on.
     pub fn bump_all(&mut self, bumps: Vec<(RelPath, u32)>)
         requires rises { is_sorted path_cmp bumps.items ≡ true }
+        requires some { All (λ b. 0 < b.1) bumps.items }
         requires room { length bumps.items ≤ self.old.spare }
         requires small { All (λ b. version_of self.old.entries b.0 + b.1 ≤ 2 ^ 31 - 1) bumps.items }
         ensures entries { self.new.entries ≡ bumped_by bumps.items self.old.entries }

@@ -1,7 +1,7 @@
 use crate::make::{bytes, has_paths, holds, path, put, tree};
 use std::alloc::Global;
 use std::test::Fail;
-use wse_path::{Contents, Memory, RelPath, Tree};
+use wse_path::Tree;
 
 fn fits(alloc: Global, tree: &Tree, text: &str) -> Result<bool, Fail> {
     Ok(tree.fits(&path(alloc, text)?))
@@ -104,14 +104,9 @@ fn the_bytes_of_a_tree_are_those_of_its_files(rt: HostRuntime) -> Result<(), Fai
     Ok(())
 }
 
-// How many files are under the path.
-fn count_under<C: Contents>(files: &C, alloc: Global, path: &RelPath) -> Result<usize, Memory> {
-    Ok(files.under(alloc, path)?.len())
-}
-
 fn has_under(alloc: Global, tree: &Tree, text: &str, count: usize) -> Result<bool, Fail> {
     let folder = path(alloc, text)?;
-    Ok(count_under(tree, alloc, &folder)? == count && tree.is_folder(&folder) == (count > 0))
+    Ok(tree.under(alloc, &folder)?.len() == count && tree.is_folder(&folder) == (count > 0))
 }
 
 fn has_first_under(alloc: Global, tree: &Tree, text: &str, first: &str) -> Result<bool, Fail> {

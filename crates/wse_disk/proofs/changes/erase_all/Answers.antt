@@ -2,6 +2,8 @@ use Rattle.std.proofs.Common.{refl, sym, ap, subst, ◌∙◌, arith}
 use Rattle.wse_path.specs.declared.change.Change.{Change}
 use Rattle.wse_disk.specs.Calls.{HasRoomFor}
 use Rattle.wse_disk.proofs.WritingLemmas.{read_none, erase_room, erase_more, changed_here}
+use Rattle.wse_disk.specs.Changes.{erasing}
+use Rattle.wse_disk.proofs.OrderLemmas.{erased_here}
 use Rattle.wse_disk.proofs.changes.erase_all.Goals as goal
 
 pub loop-change-init : goal.loop-change-init
@@ -27,7 +29,7 @@ loop-change-preserved g c =
     let i = c.loop-change.change-index in
     record {
       done = erase_more cs i c.change-item.result (g.D.Disk.told c.args.disk.now) (g.D.Disk.told c.loop-change.disk) (g.D.Disk.told c.erase_one.new.disk) c.loop-change-test.true c.change-item.is inv.done c.in_ok-erase_one.ensures.erased;
-      writing = λ start writing. c.erase_one.ensures.writing cs start (changed_here cs i c.change-item.result c.loop-change-test.true c.change-item.is) (inv.writing start writing);
+      writing = λ start writing. c.erase_one.ensures.writing (erasing cs) start (λ gone. erased_here cs i c.change-item.result gone c.loop-change-test.true c.change-item.is) (inv.writing start writing);
       kept = λ start kept. c.erase_one.ensures.kept cs start (changed_here cs i c.change-item.result c.loop-change-test.true c.change-item.is) (inv.kept start kept);
       later = omega (arith, inv.later, c.erase_one.ensures.later);
       faults = c.in_ok-erase_one.ensures.cause.kept ∙ inv.faults;
@@ -35,7 +37,7 @@ loop-change-preserved g c =
 
 pub returns-in_err-erase_one-clause-writing : goal.returns-in_err-erase_one-clause-writing
 returns-in_err-erase_one-clause-writing g c = λ start writing.
-    c.erase_one.ensures.writing c.args.changes.now start (changed_here c.args.changes.now c.loop-change.change-index c.change-item.result c.loop-change-test.true c.change-item.is) (c.loop-change.invariant.writing start writing)
+    c.erase_one.ensures.writing (erasing c.args.changes.now) start (λ gone. erased_here c.args.changes.now c.loop-change.change-index c.change-item.result gone c.loop-change-test.true c.change-item.is) (c.loop-change.invariant.writing start writing)
 
 pub returns-in_err-erase_one-clause-kept : goal.returns-in_err-erase_one-clause-kept
 returns-in_err-erase_one-clause-kept g c = λ start kept.

@@ -2,6 +2,8 @@ use Rattle.std.proofs.Common.{refl, sym, ap, subst, ◌∙◌, arith}
 use Rattle.wse_path.specs.declared.change.Change.{Change}
 use Rattle.wse_disk.specs.Calls.{HasRoomFor}
 use Rattle.wse_disk.proofs.WritingLemmas.{read_none, store_room, store_more, changed_here}
+use Rattle.wse_disk.specs.Changes.{storing}
+use Rattle.wse_disk.proofs.OrderLemmas.{stored_here}
 use Rattle.wse_disk.proofs.changes.store_all.Goals as goal
 
 pub loop-change-init : goal.loop-change-init
@@ -27,7 +29,7 @@ loop-change-preserved g c =
     let i = c.loop-change.change-index in
     record {
       done = store_more cs i c.change-item.result (g.D.Disk.told c.args.disk.now) (g.D.Disk.told c.loop-change.disk) (g.D.Disk.told c.store_one.new.disk) c.loop-change-test.true c.change-item.is inv.done c.in_ok-store_one.ensures.stored;
-      writing = λ start writing. c.store_one.ensures.writing cs start (changed_here cs i c.change-item.result c.loop-change-test.true c.change-item.is) (inv.writing start writing);
+      writing = λ start writing. c.store_one.ensures.writing (storing cs) start (λ bytes put. stored_here cs i c.change-item.result bytes put c.loop-change-test.true c.change-item.is) (inv.writing start writing);
       kept = λ start kept. c.store_one.ensures.kept cs start (changed_here cs i c.change-item.result c.loop-change-test.true c.change-item.is) (inv.kept start kept);
       later = omega (arith, inv.later, c.store_one.ensures.later);
       faults = c.in_ok-store_one.ensures.cause.kept ∙ inv.faults;
@@ -35,7 +37,7 @@ loop-change-preserved g c =
 
 pub returns-in_err-store_one-clause-writing : goal.returns-in_err-store_one-clause-writing
 returns-in_err-store_one-clause-writing g c = λ start writing.
-    c.store_one.ensures.writing c.args.changes.now start (changed_here c.args.changes.now c.loop-change.change-index c.change-item.result c.loop-change-test.true c.change-item.is) (c.loop-change.invariant.writing start writing)
+    c.store_one.ensures.writing (storing c.args.changes.now) start (λ bytes put. stored_here c.args.changes.now c.loop-change.change-index c.change-item.result bytes put c.loop-change-test.true c.change-item.is) (c.loop-change.invariant.writing start writing)
 
 pub returns-in_err-store_one-clause-kept : goal.returns-in_err-store_one-clause-kept
 returns-in_err-store_one-clause-kept g c = λ start kept.

@@ -1,10 +1,10 @@
 use Rattle.std.proofs.Common.{List, None, ◌++◌, ◌∷◌, [], take, cond, sym, ap, ◌∙◌}
 use Rattle.std.proofs.lemmas.List.{take_more}
 use Rattle.std.specs.Ordering.{eq_by_cmp}
-use Rattle.wse_path.specs.Order.{path_cmp}
+use Rattle.wse_path.specs.Order.{path_cmp, is_named}
 use Rattle.wse_path.specs.Path.{Path}
 use Rattle.wse_path.proofs.MergeLemmas.{value_set}
-use Rattle.wse_locks.specs.Locks.{Holders, holder, is_named}
+use Rattle.wse_locks.specs.Locks.{Holders, holder}
 use Rattle.wse_locks.proofs.LockLemmas.{also, named_more}
 use Rattle.wse_locks.proofs.locks.free_all.Goals as goal
 

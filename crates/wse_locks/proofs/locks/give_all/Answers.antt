@@ -1,10 +1,10 @@
 use Rattle.std.proofs.Common.{◌++◌, ◌∷◌, [], List, Some, length, cond, sym, ap, ◌∙◌, arith, append_assoc}
 use Rattle.std.specs.FinMap.Entries.{find-put}
 use Rattle.std.specs.Ordering.{eq_by_cmp}
-use Rattle.wse_path.specs.Order.{path_cmp}
+use Rattle.wse_path.specs.Order.{path_cmp, is_named}
 use Rattle.wse_path.specs.Path.{Path}
 use Rattle.wse_path.proofs.PathOrder.{total}
-use Rattle.wse_locks.specs.Locks.{Holders, holder, is_named}
+use Rattle.wse_locks.specs.Locks.{Holders, holder}
 use Rattle.wse_locks.proofs.LockLemmas.{also, named_more}
 use Rattle.wse_locks.proofs.locks.give_all.Goals as goal
 

@@ -1,6 +1,7 @@
 use Rattle.std.proofs.Common.{◌≡◌, ◌≤◌, ◌++◌, Some, length, cond}
 use Rattle.wse_path.specs.Path.{Path}
-use Rattle.wse_locks.specs.Locks.{holder, is_named}
+use Rattle.wse_path.specs.Order.{is_named}
+use Rattle.wse_locks.specs.Locks.{holder}
 use Rattle.wse_locks.proofs.locks.give_all.Given as goal
 
 abbrev pub invariant-loop-path : goal.invariant-loop-path

@@ -1,4 +1,4 @@
-use Rattle.wse_path.proofs.MergedLemmas.{sorted_ordered}
+use Rattle.wse_path.proofs.PutLemmas.{sorted_ordered}
 use Rattle.wse_path_tests.proofs.many.in_order.Goals as goal
 
 pub returns-in_err-push-clause-rises : goal.returns-in_err-push-clause-rises

@@ -4,7 +4,7 @@ use Rattle.wse_io.specs.Reader.{Reader}
 use Rattle.wse_io.specs.declared.lines.Ahead.TheVariants.{Failed}
 use Rattle.wse_io.specs.declared.lines.LineFault.TheVariants.{Read}
 use Rattle.wse_io.proofs.LineLemmas.{ends_at, no_end_from}
-use Rattle.wse_io.proofs.Reading.{so_far_none, so_far_more, kept_same, kept_more, kept_unless, kept_found, needed, same_reader, hands_line, hands_last, hands_fault}
+use Rattle.wse_io.proofs.Reading.{so_far_none, so_far_more, kept_same, kept_more, kept_unless, kept_found, needed, waits_more, same_reader, hands_line, hands_last, hands_fault}
 use Rattle.wse_io.proofs.lines.Lines.next.Goals as goal
 
 pub loop-end-init : goal.loop-end-init
@@ -12,6 +12,7 @@ loop-end-init g c = record {
   so_far = ([], so_far_none _ _);
   ready = λ _. refl;
   settled = λ _. refl;
+  waits = inl refl;
   later = omega arith;
   kept = kept_same _ _ _;
   cause = λ failed. inl failed;
@@ -51,6 +52,7 @@ loop-end-preserved g c =
       so_far = (so.0 ++ fills.0, so_far_more _ _ _ _ so.0 now.0 now.1 _ c.fill.new.self fills.0 c.in-Open.is none fills.1);
       ready = λ some. absurd (need.0 some);
       settled = λ known. absurd (need.1 known);
+      waits = waits_more g.S.Source.left g.S.Source.left_before _ _ _ _ _ so.0 now.0 c.in-Open.is none inv.waits c.fill.ensures.began;
       later = omega (arith, inv.later, c.fill.ensures.later);
       kept = kept_more _ _ _ _ (λ other. c.fill.ensures.kept other ∙ kept_unless _ _ _ _ (λ failed. let e = sym is_open ∙ failed in cc) inv.kept) (λ failed. rw (c.fill.ensures.still failed) none);
       cause = λ failed. let rose = c.fill.ensures.cause failed in inr (omega (arith, inv.later, rose));

@@ -1,9 +1,9 @@
-use Rattle.std.proofs.Common.{◌≡◌, ◌++◌, ◌∷◌, [], List, ℕ, ◌&&◌, None, IfOk, map, take, cond, sym, ap, subst, ◌∙◌}
+use Rattle.std.proofs.Common.{◌≡◌, ◌++◌, ◌∷◌, [], List, ◌&&◌, None, IfOk, take, cond, sym, ap, subst, ◌∙◌}
 use Rattle.std.proofs.lemmas.List.{take_all, take_more}
 use Rattle.std.specs.Ordering.{eq_by_cmp}
-use Rattle.wse_path.specs.Order.{path_cmp}
+use Rattle.wse_path.specs.Order.{path_cmp, is_named}
 use Rattle.wse_path.specs.Path.{Path}
-use Rattle.wse_locks.specs.Locks.{holder, is_held, is_named}
+use Rattle.wse_locks.specs.Locks.{holder, is_held}
 use Rattle.wse_locks.proofs.LockLemmas.{also_where, held_is, named_more}
 use Rattle.wse_locks.proofs.locks.Locks.held.Goals as goal
 
@@ -15,9 +15,9 @@ returns c =
     let others = c.loop-file.others.entries in
     let whole : take c.loop-file.file-index files ≡ files = take_all c.loop-file.file-index files c.loop-file-test.false in
     let answers = λ (q : Path). c.loop-file.invariant q ∙ ap (λ (fs : List Path). cond (is_named fs q && is_held entries by q) (holder entries q) None) whole in
-    subst (λ (ps : List Path). IfOk c.paths_of.result (λ paths. paths ≡ ps))
-    (ap (map (λ (e : Path × ℕ). e.0)) c.as_slice.ensures ∙ held_is others entries by files c.loop-file.others.rises c.args.self.now.rises answers)
-    c.paths_of.ensures
+    subst (λ (ps : List Path). IfOk c.paths.result (λ paths. paths ≡ ps))
+    (held_is others entries by files c.loop-file.others.rises c.args.self.now.rises answers)
+    c.paths.ensures
 
 pub loop-file-preserved : goal.loop-file-preserved
 loop-file-preserved c = λ q.

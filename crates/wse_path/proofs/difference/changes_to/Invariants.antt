@@ -1,6 +1,0 @@
-use Rattle.std.proofs.Common.{◌≡◌, ◌++◌, flat_map}
-use Rattle.wse_path.specs.Changes.{change_to}
-use Rattle.wse_path.proofs.difference.changes_to.Given as goal
-
-abbrev pub invariant-loop-path : goal.invariant-loop-path
-invariant-loop-path l = l.changes.items ++ flat_map (change_to l.tree.files) l.path-iterator ≡ flat_map (change_to l.tree.files) l.fn.contents.entries

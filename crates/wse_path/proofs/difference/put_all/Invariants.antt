@@ -1,6 +1,0 @@
-use Rattle.std.proofs.Common.{◌≡◌}
-use Rattle.wse_path.specs.Overlay.{put_each, with_content}
-use Rattle.wse_path.proofs.difference.put_all.Given as goal
-
-abbrev pub invariant-loop-path : goal.invariant-loop-path
-invariant-loop-path l = put_each (with_content l.path-iterator) l.all.entries ≡ put_each (with_content l.fn.files.entries) l.initial.all.entries
