@@ -1,10 +1,10 @@
 pub mod AlongLemmas
 pub mod SizeLemmas
 pub mod StopLemmas
-pub mod PartLemmas
 pub mod TextLemmas
 pub mod OperationLemmas
 pub mod CourseLemmas
+pub mod WantLemmas
 pub mod StepLemmas
 pub mod PerformedLemmas
 pub mod LimitLemmas

@@ -2,23 +2,22 @@
 use Rattle.std.proofs.Common.{◌≡◌, ◌⊎◌, inl, inr, true, false, List, Result, Ok, Err, refl, sym, ap, subst, ◌∙◌}
 use Rattle.std.specs.Prelude.{if◌then◌else◌}
 use Rattle.wse_path.specs.Tree.{Entries, IsTree}
-use Rattle.wse_path.specs.Changes.{LeadToTree}
+use Rattle.wse_path.specs.Changes.{changes_between, LeadToTree}
 use Rattle.wse_path.specs.declared.change.Change.{Change}
 use Rattle.wse_path.specs.declared.edit.Operation.{Operation}
 use Rattle.wse_path.specs.declared.operation.ResourceOp.{ResourceOp}
-use Rattle.wse_resource.specs.Operated.{operated, changed}
+use Rattle.wse_resource.specs.Operated.{operated}
 use Rattle.wse_resource.specs.declared.refused.OpRefused.{OpRefused}
 use Rattle.wse_resource.specs.declared.refused.OpRefused.TheVariants as op
 use Rattle.wse_apply.specs.Setting.{SettingState}
 use Rattle.wse_apply.specs.Stop.{changed_to}
 use Rattle.wse_apply.specs.Next.{changed_by, resource_next, done_next, next}
-use Rattle.wse_apply.specs.Draft.{LeadTo, IsDraftOf, IsStopOf, LeavesUnlessMemory, IsPartFor}
+use Rattle.wse_apply.specs.Draft.{LeadTo, IsDraftOf, IsStopOf, LeavesUnlessMemory}
 use Rattle.wse_apply.specs.StopFor.{stop_for}
 use Rattle.wse_apply.specs.declared.reason.Reason.{Reason}
 use Rattle.wse_apply.specs.declared.reason.Reason.TheVariants.{Op}
 use Rattle.wse_apply.specs.declared.stop.Stop.{Stop}
 use Rattle.wse_apply.specs.declared.stop.Stop.TheVariants.{Refused, Memory}
-use Rattle.wse_apply.proofs.PartLemmas.{does_alike, refuses_alike}
 
 -- ---- a resource operation
 
@@ -30,14 +29,18 @@ stops : (given : Result Entries Reason) (why : OpRefused) → given ≡ Err (Op 
 stops given op.Memory h = tt
 stops given why h = h
 
-pub resource_draft : (setting : SettingState) (o : ResourceOp) (part files : Entries) (cs : List Change) → IsTree part → IsTree files → IsPartFor o part files → changed part o ≡ Ok cs → IsDraftOf setting files (resource_next setting files o) cs
-resource_draft setting o part files cs s t is h =
-    let does = does_alike o part files cs s t is h in
-    record { new = does.0; leads = does.2; next_is = ap (changed_by setting files) does.1 }
+-- tried over the files, it changes what it is to change
+pub resource_draft : (setting : SettingState) (o : ResourceOp) (files base old new : Entries) (cs : List Change) → base ≡ files → old ≡ files → IsTree new → operated old o ≡ Ok new → cs ≡ changes_between base new → IsDraftOf setting files (resource_next setting files o) cs
+resource_draft setting o files base old new cs a b tree done between = record {
+  new = new;
+  leads = record { tree = tree; between = between ∙ ap (λ (es : Entries). changes_between es new) a };
+  next_is = ap (changed_by setting files) (ap (λ (es : Entries). operated es o) (sym b) ∙ done);
+}
 
-pub resource_refused : (setting : SettingState) (o : ResourceOp) (part files : Entries) (why : OpRefused) → IsTree part → IsTree files → IsPartFor o part files → (why ≡ op.Memory) ⊎ (operated part o ≡ Err why) → IsStopOf (resource_next setting files o) (stop_for why)
-resource_refused setting o part files why s t is (inl memory) = subst (λ w. IsStopOf (resource_next setting files o) (stop_for w)) (sym memory) tt
-resource_refused setting o part files why s t is (inr h) = stops (resource_next setting files o) why (ap (changed_by setting files) (refuses_alike o part files why s t is h))
+pub resource_refused : (setting : SettingState) (o : ResourceOp) (files old new : Entries) (why : OpRefused) → old ≡ files → (why ≡ op.Memory) ⊎ ((operated old o ≡ Err why) × (new ≡ old)) → IsStopOf (resource_next setting files o) (stop_for why)
+resource_refused setting o files old new why b (inl memory) = subst (λ w. IsStopOf (resource_next setting files o) (stop_for w)) (sym memory) tt
+resource_refused setting o files old new why b (inr refused) =
+    stops (resource_next setting files o) why (ap (changed_by setting files) (ap (λ (es : Entries). operated es o) (sym b) ∙ refused.0))
 
 -- ---- any operation
 

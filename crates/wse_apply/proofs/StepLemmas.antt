@@ -2,13 +2,9 @@
 use Rattle.std.proofs.Common.{◌≡◌, ℕ, suc, ◌+◌, ◌<◌, ◌≤◌, Bool, true, false, cond, ◌||◌, List, [], ◌∷◌, ◌++◌, map, length, get_or, take, drop, None, refl, sym, ap, ◌∙◌, append_assoc, add-one}
 use Rattle.std.proofs.Math.Seq.{drop-cons}
 use Rattle.std.proofs.lemmas.List.{take_more, drop_all, append-nil}
-use Rattle.std.proofs.lemmas.List.Folds.{list_any-append}
 use Rattle.std.specs.List.{filter}
 use Rattle.std.specs.Option.{option_or}
-use Rattle.std.specs.Ordering.{eq_by_cmp}
 use Rattle.wse_path.specs.Path.{Path}
-use Rattle.wse_path.specs.Order.{path_cmp}
-use Rattle.wse_path.specs.Overlay.{is_among}
 use Rattle.wse_path.specs.Tree.{Entries}
 use Rattle.wse_path.specs.Changes.{erased, erased_at}
 use Rattle.wse_path.specs.declared.change.Change.{Change}
@@ -70,7 +66,3 @@ skips_next os i d l e =
 
 pub skips_end : (os : List Operation) (i : ℕ) → length os ≤ i → skips_from i (drop i os) ≡ []
 skips_end os i l = ap (skips_from i) (drop_all i os l)
-
--- a path among one more
-pub among_next : (ps : List Path) (i : ℕ) (d q : Path) → i < length ps → d ≡ get_or ps i d → is_among (take (i + 1) ps) q ≡ (is_among (take i ps) q || (eq_by_cmp path_cmp q d || false))
-among_next ps i d q l e = ap (λ l. is_among l q) (take_next ps i d l e) ∙ list_any-append (eq_by_cmp path_cmp q) (take i ps) (d ∷ [])

@@ -83,7 +83,7 @@ sizes_changed setting sizes files new cs small tree lead =
     })
 
 -- so the limit that is hit is that of the new files
-hit_is : (setting : SettingState) (sizes : Sizes) (files new : Entries) (cs : List Change) → AreSmall setting sizes files → IsTree files → LeadTo files cs new → hit_after setting.limits (plus (minus sizes (size_before cs)) (size_after cs)) cs ≡ limit_hit setting.limits new
+pub hit_is : (setting : SettingState) (sizes : Sizes) (files new : Entries) (cs : List Change) → AreSmall setting sizes files → IsTree files → LeadTo files cs new → hit_after setting.limits (plus (minus sizes (size_before cs)) (size_after cs)) cs ≡ limit_hit setting.limits new
 hit_is setting sizes files new cs small tree lead =
     let none = no_hit setting.limits files small.fits in
     ap (λ s. hit_after setting.limits s cs) (sizes_changed setting sizes files new cs small tree lead)

@@ -1,12 +1,10 @@
 -- An operation that is drafted: its changes are known, and nothing is done yet.
 use Rattle.std.specs.Prelude.{◌≡◌, ℕ, true, List, [], if◌then◌else◌, ◌∷◌, ◌++◌, Option, Some, None, Result, Err, ⊤}
 use Rattle.wse_path.specs.Path.{Path}
-use Rattle.wse_path.specs.Tree.{Entries, content, is_present, is_near, HasRoom, IsTree}
+use Rattle.wse_path.specs.Tree.{Entries, HasRoom, IsTree}
 use Rattle.wse_path.specs.Changes.{is_same, changes_between, stored}
 use Rattle.wse_path.specs.Limits.{standard}
 use Rattle.wse_path.specs.declared.change.Change.{Change}
-use Rattle.wse_path.specs.declared.operation.ResourceOp.{ResourceOp}
-use Rattle.wse_path.specs.declared.operation.ResourceOp.TheVariants.{Create, Rename, Delete}
 use Rattle.wse_apply.specs.Setting.{SettingState}
 use Rattle.wse_apply.specs.Limit.{limit_hit, are_within}
 use Rattle.wse_apply.specs.Sizes.{sizes_of}
@@ -36,28 +34,6 @@ IsStopOf next Memory = ⊤
 abbrev pub TellsReason : Option Reason → Stop → Type 0
 TellsReason reason (Refused why) = reason ≡ Some why
 TellsReason reason Memory = ⊤
-
--- The same content, absence included.
-abbrev pub AgreeAt : Entries → Entries → Path → Type 0
-AgreeAt part files q = content part q ≡ content files q
-
--- Each file of the part is one of the files.
-abbrev pub IsPart : Entries → Entries → Type 0
-IsPart part files = (q : Path) → is_present part q ≡ true → AgreeAt part files q
-
--- The part has all that stands at the path, above it and under it.
-abbrev pub HasNear : Entries → Entries → Path → Type 0
-HasNear part files p = (q : Path) → is_near p q ≡ true → AgreeAt part files q
-
-abbrev pub HasPaths : ResourceOp → Entries → Entries → Type 0
-HasPaths (Create p overwrite ignore) part files = HasNear part files p
-HasPaths (Rename from to overwrite ignore) part files = HasNear part files from × HasNear part files to
-HasPaths (Delete p recursive ignore) part files = HasNear part files p
-
--- The part has all that the operation looks at.
-pub record IsPartFor (op : ResourceOp) (part files : Entries) : Type 0 where
-  pub is_part : IsPart part files
-  pub has_near : HasPaths op part files
 
 -- The files pass no limit, no limit is above the program's, and the sizes are those of the files.
 pub record AreSmall (setting : SettingState) (sizes : Sizes) (files : Entries) : Type 0 where

@@ -3,6 +3,7 @@ pub mod Limit
 pub mod Stop
 pub mod Next
 pub mod Course
+pub mod Want
 pub mod Kept
 pub mod Skips
 pub mod Performed

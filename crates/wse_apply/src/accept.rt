@@ -15,7 +15,8 @@ use crate::setting::Setting;
 use crate::sizes::{Sizes, hit_after};
 use crate::stop::Stop;
 use std::alloc::Global;
-use wse_path::{Change, Changes, Duplicate, Files, Items, Memory, Overlay, RelPath};
+use wse_overlay::Overlay;
+use wse_path::{Change, Changes, Duplicate, Files, Items, Memory, RelPath, Tree};
 
 /// Appends the path if another participant holds it.
 fn note_held(
@@ -65,7 +66,7 @@ fn stop_by(
 }
 
 /// Takes the path away, if the change does.
-fn erase(alloc: Global, overlay: &mut Overlay<'_>, change: &Change) -> Result<(), Memory>
+fn erase(alloc: Global, overlay: &mut Overlay<'_, Tree>, change: &Change) -> Result<(), Memory>
     ensures files { OnOk result (overlay.new.files ≡ erased_at change.now.path change.now.after overlay.old.files) }
     ensures base { overlay.new.base ≡ overlay.old.base }
 {
@@ -75,7 +76,11 @@ fn erase(alloc: Global, overlay: &mut Overlay<'_>, change: &Change) -> Result<()
     }
 }
 
-fn erase_all(alloc: Global, overlay: &mut Overlay<'_>, changes: &[Change]) -> Result<(), Memory>
+fn erase_all(
+    alloc: Global,
+    overlay: &mut Overlay<'_, Tree>,
+    changes: &[Change],
+) -> Result<(), Memory>
     ensures files { OnOk result (overlay.new.files ≡ erased changes.now overlay.old.files) }
     ensures base { overlay.new.base ≡ overlay.old.base }
 {
@@ -86,7 +91,7 @@ fn erase_all(alloc: Global, overlay: &mut Overlay<'_>, changes: &[Change]) -> Re
 }
 
 /// Puts the new content, if the change has one.
-fn store(overlay: &mut Overlay<'_>, change: Change) -> Result<(), Memory>
+fn store(overlay: &mut Overlay<'_, Tree>, change: Change) -> Result<(), Memory>
     requires { (bytes : List ℕ) → change.after ≡ Some bytes → HasRoom overlay.old.files change.path }
     ensures files { OnOk result (overlay.new.files ≡ stored_at change.path change.after overlay.old.files) }
     ensures base { overlay.new.base ≡ overlay.old.base }
@@ -102,7 +107,7 @@ fn store(overlay: &mut Overlay<'_>, change: Change) -> Result<(), Memory>
     }
 }
 
-fn store_all(overlay: &mut Overlay<'_>, changes: Vec<Change>) -> Result<(), Memory>
+fn store_all(overlay: &mut Overlay<'_, Tree>, changes: Vec<Change>) -> Result<(), Memory>
     requires { FindRoom changes.items overlay.old.files }
     ensures files { OnOk result (overlay.new.files ≡ stored changes.items overlay.old.files) }
     ensures base { overlay.new.base ≡ overlay.old.base }
@@ -114,7 +119,7 @@ fn store_all(overlay: &mut Overlay<'_>, changes: Vec<Change>) -> Result<(), Memo
 }
 
 /// Makes the changes.
-fn make(alloc: Global, overlay: &mut Overlay<'_>, changes: Changes) -> Result<(), Memory>
+fn make(alloc: Global, overlay: &mut Overlay<'_, Tree>, changes: Changes) -> Result<(), Memory>
     requires { LeadToTree overlay.old.files changes }
     ensures files { OnOk result ((new : Entries) → LeadTo overlay.old.files changes new → overlay.new.files ≡ new) }
     ensures base { overlay.new.base ≡ overlay.old.base }
@@ -127,7 +132,7 @@ fn make(alloc: Global, overlay: &mut Overlay<'_>, changes: Changes) -> Result<()
 pub fn accept(
     alloc: Global,
     setting: &Setting<'_>,
-    overlay: &mut Overlay<'_>,
+    overlay: &mut Overlay<'_, Tree>,
     sizes: Sizes,
     changes: Changes,
 ) -> Result<Sizes, Stop>

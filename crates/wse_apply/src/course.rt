@@ -12,13 +12,14 @@ use crate::sizes::Sizes;
 use crate::stop::Stop;
 use crate::text::text_changes;
 use std::alloc::Global;
-use wse_path::{Changes, Memory, Operation, Overlay, What};
+use wse_overlay::Overlay;
+use wse_path::{Changes, Memory, Operation, Tree, What};
 
 /// What the operation changes, unless something refuses it.
 fn drafted(
     alloc: Global,
     setting: &Setting<'_>,
-    overlay: &Overlay<'_>,
+    overlay: &Overlay<'_, Tree>,
     what: &What,
 ) -> Result<Changes, Stop>
     ensures draft { IfOk result (IsDraftOf setting.now overlay.now.files (done_next setting.now overlay.now.files what.now)) }
@@ -38,7 +39,7 @@ fn drafted(
 fn step(
     alloc: Global,
     setting: &Setting<'_>,
-    overlay: &mut Overlay<'_>,
+    overlay: &mut Overlay<'_, Tree>,
     sizes: Sizes,
     operation: &Operation,
 ) -> Result<Sizes, Stop>
@@ -70,7 +71,7 @@ pub fn failed_at(index: u64, stop: Stop) -> Result<Option<(u64, Reason)>, Memory
 pub fn run(
     alloc: Global,
     setting: &Setting<'_>,
-    overlay: &mut Overlay<'_>,
+    overlay: &mut Overlay<'_, Tree>,
     sizes: Sizes,
     operations: &[Operation],
 ) -> Result<Option<(u64, Reason)>, Memory>

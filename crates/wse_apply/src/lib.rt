@@ -2,12 +2,11 @@
 #![tactic(auto)]
 
 mod accept;
-mod copies;
+mod after;
 mod course;
 mod difference;
 mod kept;
 mod limits;
-mod part;
 mod performed;
 mod reason;
 mod resource;
@@ -19,6 +18,7 @@ mod stop;
 mod text;
 mod unchanged;
 
+pub use after::limit_hit_after;
 pub use limits::{are_within_standard, limit_hit};
 pub use performed::{Performed, perform};
 pub use reason::Reason;

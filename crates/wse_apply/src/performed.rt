@@ -1,8 +1,9 @@
 // Whole edits.
-ghost use Rattle.std.specs.Prelude.{◌≡◌, None, true, IfOk, if◌then◌else◌, []};
+ghost use Rattle.std.specs.Prelude.{◌≡◌, None, true, false, IfOk, if◌then◌else◌, []};
 ghost use Rattle.wse_path.specs.Limits.{standard};
 ghost use Rattle.wse_apply.specs.Limit.{limit_hit, are_within};
 ghost use Rattle.wse_apply.specs.Performed.{performed};
+ghost use Rattle.wse_apply.specs.Want.{fails_for_memory};
 
 use crate::course::run;
 use crate::kept::{bumps_by, rule_after};
@@ -12,7 +13,8 @@ use crate::sizes::Sizes;
 use crate::skips::{Skips, skips_of};
 use std::alloc::Global;
 use wse_locks::Locks;
-use wse_path::{Bumps, Changes, Edit, Items, Limits, Memory, Overlay, Tree, Versions};
+use wse_overlay::Overlay;
+use wse_path::{Bumps, Changes, Edit, Items, Limits, Memory, Tree, Versions};
 
 /// What an edit does.
 #[derive(Drop)]
@@ -39,7 +41,8 @@ fn kept(alloc: Global, keeps: bool, changes: Changes) -> Changes
 
 /// Performs the edit over the tree, without changing it (LSP 3.17, "WorkspaceEdit"): its operations one after another, up
 /// to the first that fails, and then what its failure kind says. It costs about what its operations change, times a
-/// logarithm, however large the tree is.
+/// logarithm, however large the tree is. Each operation that edits a text reads and writes that whole text: many of them
+/// on one file cost their number times its size, and edits of one operation cost the text once.
 ///
 /// The order of reasons, versions, locks, limits and skipped operations are this project's own rules.
 pub fn perform(
@@ -53,8 +56,9 @@ pub fn perform(
 ) -> Result<Performed, Memory>
     requires within { are_within limits.now standard ≡ true }
     requires fits { limit_hit limits.now tree.now.files ≡ None }
-    ensures { IfOk result (λ done. done
+    ensures done { IfOk result (λ done. done
         ≡ performed tree.now.files versions.now.entries locks.now.entries limits.now by edit.now) }
+    ensures reason { IfOk result (λ done. fails_for_memory done.failed ≡ false) }
 {
     let setting = Setting::new(versions, locks, limits, by, edit.encoding);
     let operations = edit.operations.as_slice();

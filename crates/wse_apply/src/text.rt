@@ -7,16 +7,15 @@ ghost use Rattle.wse_edits.specs.Refusal.{refusal};
 ghost use Rattle.wse_apply.specs.Next.{version_refusal, not_text, edits_reason, text_next};
 ghost use Rattle.wse_apply.specs.Draft.{IsDraftOf, IsStopOf, TellsReason, change_of};
 
-use crate::copies::copy_bytes;
 use crate::reason::Reason;
 use crate::setting::Setting;
 use crate::stop::Stop;
 use crate::unchanged::all_leave;
 use std::alloc::Global;
 use wse_edits::{EditsRefused, resolve};
+use wse_overlay::{Contents, Overlay};
 use wse_path::{
-    Bytes, Change, Changes, Contents, Duplicate, Encoding, Items, Memory, Overlay, RelPath,
-    TextEdit,
+    Bytes, Change, Changes, Duplicate, Encoding, Items, Memory, RelPath, TextEdit, Tree, copy_bytes,
 };
 use wse_resource::OpRefused;
 use wse_splice::{Splices, apply};
@@ -141,7 +140,7 @@ fn change_to(alloc: Global, path: &RelPath, before: &[u8], after: Bytes) -> Resu
 pub fn text_changes(
     alloc: Global,
     setting: &Setting<'_>,
-    overlay: &Overlay<'_>,
+    overlay: &Overlay<'_, Tree>,
     path: &RelPath,
     version: Option<i64>,
     edits: &[TextEdit],
@@ -149,7 +148,7 @@ pub fn text_changes(
     ensures draft { IfOk result (IsDraftOf setting.now overlay.now.files (text_next setting.now overlay.now.files path.now version edits.now)) }
     ensures refused { IfErr result (IsStopOf (text_next setting.now overlay.now.files path.now version edits.now)) }
 {
-    if overlay.is_folder(path) {
+    if overlay.is_folder(alloc, path)? {
         return Err(Stop::Refused(Reason::Op(OpRefused::IsFolder)));
     }
     match overlay.get(path) {

@@ -13,11 +13,11 @@ use Rattle.wse_path.specs.declared.operation.ResourceOp.{ResourceOp}
 use Rattle.wse_path.specs.declared.operation.ResourceOp.TheVariants.{Create, Rename, Delete}
 use Rattle.wse_path.proofs.TreeLemmas.{tree_put, rises_put}
 use Rattle.wse_resource.specs.Table.{is_within, moved, files_within}
-use Rattle.wse_resource.specs.After.{without, moved_files, after, content_after}
+use Rattle.wse_resource.specs.After.{without, moved_files, after_operation, content_after}
 use Rattle.wse_resource.proofs.WithinLemmas.{moved_within, moved_back, moved_under, above_both, under_trans}
 use Rattle.wse_path.proofs.PutLemmas.{find_where, sorted_where, sorted_put_each, put_all_is, find_put_each, each_found, each_passes}
 use Rattle.wse_path.proofs.RoomLemmas.{room_where}
-use Rattle.wse_path.proofs.AboveLemmas.{clash, none_above}
+use Rattle.wse_overlay.proofs.AboveLemmas.{clash, none_above}
 use Rattle.wse_resource.proofs.EntriesLemmas.{has_moved_keys}
 
 -- ---- what it has at each path
@@ -63,7 +63,7 @@ renamed true v (Some x) c = refl
 renamed false true m c = refl
 renamed false false m c = refl
 
-pub content_is : (files : Entries) (op : ResourceOp) (q : Path) → is_sorted path_cmp files ≡ true → content (after files op) q ≡ content_after files op q
+pub content_is : (files : Entries) (op : ResourceOp) (q : Path) → is_sorted path_cmp files ≡ true → content (after_operation files op) q ≡ content_after files op q
 content_is files (Create p overwrite ignore) q s = find-put path_cmp (lists_total nat_list_cmp_total) q p [] files
 content_is files (Rename from to overwrite ignore) q s =
     let left = without (without files from) to in
@@ -75,7 +75,7 @@ content_is files (Delete p recursive ignore) q s = content_without files p q ∙
 
 -- ---- that it is a tree
 
-pub sorted_after : (files : Entries) (op : ResourceOp) → is_sorted path_cmp files ≡ true → is_sorted path_cmp (after files op) ≡ true
+pub sorted_after : (files : Entries) (op : ResourceOp) → is_sorted path_cmp files ≡ true → is_sorted path_cmp (after_operation files op) ≡ true
 sorted_after files (Create p overwrite ignore) s = rises_put files p [] s
 sorted_after files (Rename from to overwrite ignore) s =
     let left = without (without files from) to in
@@ -104,7 +104,7 @@ came_by : (w v : Bool) (m c : Option (List ℕ)) → is_some (cond w m (cond v N
 came_by true v m c h = inl (refl, h)
 came_by false v m c h = inr (refl, (some_kept v c h).1)
 
-came : (files : Entries) (from to : Path) (overwrite ignore : Bool) (q : Path) → is_sorted path_cmp files ≡ true → is_present (after files (Rename from to overwrite ignore)) q ≡ true → Came files from to q
+came : (files : Entries) (from to : Path) (overwrite ignore : Bool) (q : Path) → is_sorted path_cmp files ≡ true → is_present (after_operation files (Rename from to overwrite ignore)) q ≡ true → Came files from to q
 came files from to overwrite ignore q s h =
     came_by (is_within q to) (is_within q from) (content files (moved to from q)) (content files q) (ap is_some (sym (content_is files (Rename from to overwrite ignore) q s)) ∙ h)
 
@@ -118,7 +118,7 @@ apart_came files from to p q tree above (inl a) (inr b) h =
 apart_came files from to p q tree above (inr a) (inl b) h = clash _ (under_trans p q to h b.0) a.0
 apart_came files from to p q tree above (inr a) (inr b) h = clash _ h (tree.apart p q a.1 b.1)
 
-pub tree_renamed : (files : Entries) (from to : Path) (overwrite ignore : Bool) → IsTree files → file_above files to ≡ None → IsTree (after files (Rename from to overwrite ignore))
+pub tree_renamed : (files : Entries) (from to : Path) (overwrite ignore : Bool) → IsTree files → file_above files to ≡ None → IsTree (after_operation files (Rename from to overwrite ignore))
 tree_renamed files from to overwrite ignore tree above = record {
   rises = sorted_after files (Rename from to overwrite ignore) tree.rises;
   apart = λ p q hp hq. false_from_ne_true (is_under p q) (apart_came files from to p q tree above (came files from to overwrite ignore p tree.rises hp) (came files from to overwrite ignore q tree.rises hq));

@@ -10,7 +10,7 @@ use Rattle.wse_resource.specs.declared.refused.OpRefused.{OpRefused}
 use Rattle.wse_resource.specs.declared.refused.OpRefused.TheVariants.{IsFolder, NotFound, IntoItself, HoldsSource}
 use Rattle.wse_resource.specs.Table.{Outcome, is_there, past_limit, unless_beneath, unless_past_limit, unless_taken, create_outcome, rename_outcome, outcome}
 use Rattle.wse_resource.specs.Table.Outcome.{Nothing, Done, Refused}
-use Rattle.wse_resource.specs.After.{after}
+use Rattle.wse_resource.specs.After.{after_operation}
 use Rattle.wse_resource.specs.Operated.{tree_by, changes_to, changed, LeavesTree}
 use Rattle.wse_resource.specs.Course.{limit_outcome}
 use Rattle.wse_path.proofs.RoomLemmas.{room_where}
@@ -58,7 +58,7 @@ rename_clear true false false false (Some file) rest (Some p) e = cc
 rename_clear true false false false (Some file) rest None e = cc
 
 -- an operation that nothing but a limit may stop leaves a tree
-pub done_tree : (files : Entries) (op : ResourceOp) → IsTree files → outcome files op ≡ limit_outcome files op → IsTree (after files op)
+pub done_tree : (files : Entries) (op : ResourceOp) → IsTree files → outcome files op ≡ limit_outcome files op → IsTree (after_operation files op)
 done_tree files (Create p overwrite ignore) tree e =
     let clear = create_clear (is_folder files p) (file_above files p) (unless_taken (is_present files p) overwrite ignore Done) e in
     tree_created files p tree clear.0 clear.1
@@ -92,7 +92,7 @@ err_ok why new e = cc
 
 left_tree : (files : Entries) (op : ResourceOp) (o : Outcome) → IsTree files → outcome files op ≡ o → (new : Entries) → tree_by files op o ≡ Ok new → IsTree new
 left_tree files op Nothing tree e new is = subst IsTree (same_ok files new is) tree
-left_tree files op Done tree e new is = subst IsTree (same_ok (after files op) new is) (done_tree files op tree (e ∙ sym (done_limit files op e)))
+left_tree files op Done tree e new is = subst IsTree (same_ok (after_operation files op) new is) (done_tree files op tree (e ∙ sym (done_limit files op e)))
 left_tree files op (Refused why) tree e new is = absurd (err_ok why new is)
 
 pub leaves_tree : (files : Entries) (op : ResourceOp) → IsTree files → LeavesTree files op

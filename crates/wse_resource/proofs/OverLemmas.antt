@@ -8,14 +8,13 @@ use Rattle.std.proofs.lemmas.Bool.{or_right}
 use Rattle.std.proofs.lemmas.List.{take_more, map-append}
 use Rattle.std.proofs.lemmas.Option.{slice_get-get_or}
 use Rattle.wse_path.specs.Path.{Path}
-use Rattle.wse_path.specs.Order.{path_cmp}
+use Rattle.wse_path.specs.Order.{path_cmp, is_named}
 use Rattle.wse_path.specs.Tree.{Entries, content, is_present, put_file, put_all, remove_file, HasRoom, IsTree}
-use Rattle.wse_path.specs.Overlay.{is_among}
 use Rattle.wse_path.proofs.TreeLemmas.{rises_remove, present_front, present_behind}
 use Rattle.wse_path.proofs.PutLemmas.{sorted_where, has_put_all}
 use Rattle.wse_path.proofs.RoomLemmas.{room_in}
 use Rattle.wse_path.proofs.ChangeLemmas.{content_remove}
-use Rattle.wse_path.proofs.ShownLemmas.{same_files}
+use Rattle.wse_overlay.proofs.ShownLemmas.{same_files}
 use Rattle.wse_resource.specs.Table.{is_within, files_within, moved}
 use Rattle.wse_resource.specs.After.{removed_each, without}
 use Rattle.wse_resource.proofs.AfterLemmas.{content_within, content_without, some_before}
@@ -28,12 +27,12 @@ removed_once true true was = refl
 removed_once true false was = refl
 removed_once false g was = refl
 
-content_removed : (ps : List Path) (files : Entries) (q : Path) → content (removed_each ps files) q ≡ cond (is_among ps q) None (content files q)
+content_removed : (ps : List Path) (files : Entries) (q : Path) → content (removed_each ps files) q ≡ cond (is_named ps q) None (content files q)
 content_removed [] files q = refl
 content_removed (p ∷ ps) files q =
     content_removed ps (remove_file files p) q
-    ∙ ap (cond (is_among ps q) None) (content_remove files p q)
-    ∙ removed_once (eq_by_cmp path_cmp q p) (is_among ps q) (content files q)
+    ∙ ap (cond (is_named ps q) None) (content_remove files p q)
+    ∙ removed_once (eq_by_cmp path_cmp q p) (is_named ps q) (content files q)
 
 rises_removed : (ps : List Path) (files : Entries) → is_sorted path_cmp files ≡ true → is_sorted path_cmp (removed_each ps files) ≡ true
 rises_removed [] files s = s

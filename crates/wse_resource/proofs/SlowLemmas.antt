@@ -14,7 +14,7 @@ use Rattle.wse_path.specs.Tree.{Entries, content, is_present, put_file, put_all,
 use Rattle.wse_path.specs.declared.operation.ResourceOp.TheVariants.{Rename}
 use Rattle.wse_path.proofs.TreeLemmas.{fits_front, put_front, content_of, present_front}
 use Rattle.wse_resource.specs.Table.{is_within, moved, files_within, past_limit}
-use Rattle.wse_resource.specs.After.{without, moved_files, after}
+use Rattle.wse_resource.specs.After.{without, moved_files, after_operation}
 use Rattle.wse_resource.specs.Course.{is_past_limit}
 use Rattle.wse_resource.proofs.WithinLemmas.{moved_within, moved_back}
 use Rattle.wse_path.proofs.PutLemmas.{has_put_all}
@@ -128,7 +128,7 @@ kept_moved files from to i left q h =
     (sym (has_put_all (moved_files (take i files) from to) left q) ∙ h)
 
 -- where a file of the tree goes, it is in the end
-moved_here : (files : Entries) (from to : Path) (e : Path × List ℕ) → is_sorted path_cmp files ≡ true → content files e.0 ≡ Some e.1 → is_within e.0 from ≡ true → is_present (after files (Rename from to true true)) (moved from to e.0) ≡ true
+moved_here : (files : Entries) (from to : Path) (e : Path × List ℕ) → is_sorted path_cmp files ≡ true → content files e.0 ≡ Some e.1 → is_within e.0 from ≡ true → is_present (after_operation files (Rename from to true true)) (moved from to e.0) ≡ true
 moved_here files from to e s is h =
     let p = moved from to e.0 in
     ap is_some (content_is files (Rename from to true true) p s
@@ -139,7 +139,7 @@ moved_here files from to e s is h =
 pub moved_room : (files : Entries) (from to : Path) (i : ℕ) (e : Path × List ℕ) → IsTree files → file_above files to ≡ None → slice_get files i ≡ Some e → is_within e.0 from ≡ true → HasRoom (put_all (moved_files (take i files) from to) (without (without files from) to)) (moved from to e.0)
 moved_room files from to i e tree above at h =
     let left = without (without files from) to in
-    room_in (put_all (moved_files (take i files) from to) left) (after files (Rename from to true true)) (moved from to e.0) (tree_renamed files from to true true tree above) (kept_moved files from to i left) (moved_here files from to e tree.rises (content_at files i e tree.rises at) h)
+    room_in (put_all (moved_files (take i files) from to) left) (after_operation files (Rename from to true true)) (moved from to e.0) (tree_renamed files from to true true tree above) (kept_moved files from to i left) (moved_here files from to e tree.rises (content_at files i e tree.rises at) h)
 
 -- ---- the first file at or under a path that fails a test
 

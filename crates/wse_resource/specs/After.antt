@@ -24,10 +24,10 @@ moved_files files from to = map (λ e. (moved from to e.0, e.1)) (files_within f
 
 -- A create makes the path an empty file. A rename takes away all at and under both paths, and puts each file that was at or
 -- under the first where it goes. A delete takes away all at and under the path.
-abbrev pub after : Entries → ResourceOp → Entries
-after files (Create p overwrite ignore) = put_file files p []
-after files (Rename from to overwrite ignore) = put_all (moved_files files from to) (without (without files from) to)
-after files (Delete p recursive ignore) = without files p
+abbrev pub after_operation : Entries → ResourceOp → Entries
+after_operation files (Create p overwrite ignore) = put_file files p []
+after_operation files (Rename from to overwrite ignore) = put_all (moved_files files from to) (without (without files from) to)
+after_operation files (Delete p recursive ignore) = without files p
 
 -- The same path by path: what is at q after the operation.
 abbrev pub content_after : Entries → ResourceOp → Path → Option (List ℕ)

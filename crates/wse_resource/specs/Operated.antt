@@ -7,12 +7,12 @@ use Rattle.wse_path.specs.declared.change.Change.{Change}
 use Rattle.wse_path.specs.declared.operation.ResourceOp.{ResourceOp}
 use Rattle.wse_resource.specs.Table.{Outcome, outcome}
 use Rattle.wse_resource.specs.Table.Outcome.{Nothing, Done, Refused}
-use Rattle.wse_resource.specs.After.{after, content_after}
+use Rattle.wse_resource.specs.After.{after_operation, content_after}
 use Rattle.wse_resource.specs.declared.refused.OpRefused.{OpRefused}
 
 abbrev pub tree_by : Entries → ResourceOp → Outcome → Result Entries OpRefused
 tree_by files op Nothing = Ok files
-tree_by files op Done = Ok (after files op)
+tree_by files op Done = Ok (after_operation files op)
 tree_by files op (Refused why) = Err why
 
 -- The tree after the operation, or why it is refused.
@@ -30,4 +30,4 @@ changed files op = changes_to files (operated files op)
 -- What is left is a tree, and what it has at each path.
 pub record LeavesTree (files : Entries) (op : ResourceOp) : Type 0 where
   pub tree : (new : Entries) → operated files op ≡ Ok new → IsTree new
-  pub each : outcome files op ≡ Done → (q : Path) → content (after files op) q ≡ content_after files op q
+  pub each : outcome files op ≡ Done → (q : Path) → content (after_operation files op) q ≡ content_after files op q

@@ -7,7 +7,8 @@ ghost use Rattle.wse_resource.specs.Course.{limit_outcome, outcome_by};
 
 use crate::refused::OpRefused;
 use std::alloc::Global;
-use wse_path::{Contents, Duplicate, RelPath, ResourceOp};
+use wse_overlay::Contents;
+use wse_path::{Duplicate, Memory, RelPath, ResourceOp};
 
 /// What comes of an operation that nothing at its paths refuses.
 #[derive(Debug, Clone, Copy)]
@@ -18,7 +19,7 @@ pub enum Course {
     Goes,
 }
 
-/// What comes of the operation by what stands at its paths. It takes memory for the path of a refusal alone.
+/// What comes of the operation by what stands at its paths.
 pub fn course_of<C: Contents>(
     alloc: Global,
     contents: &C,
@@ -45,7 +46,7 @@ pub fn course_of<C: Contents>(
             path,
             recursive,
             ignore,
-        } => delete_course(contents, path, *recursive, *ignore),
+        } => delete_course(alloc, contents, path, *recursive, *ignore),
     }
 }
 
@@ -61,7 +62,7 @@ fn create_course<C: Contents>(
     ensures refused { IfErr result (λ why. (why ≡ OpRefused.Memory)
         ⊎ (create_outcome (C.files contents.now) path.now overwrite ignore ≡ Refused why)) }
 {
-    if contents.is_folder(path) {
+    if contents.is_folder(alloc, path)? {
         return Err(OpRefused::IsFolder);
     }
     refuse_beneath(alloc, contents, path)?;
@@ -82,7 +83,7 @@ fn rename_course<C: Contents>(
     ensures refused { IfErr result (λ why. (why ≡ OpRefused.Memory)
         ⊎ (rename_outcome (C.files contents.now) from.now to.now overwrite ignore ≡ Refused why)) }
 {
-    if !is_there(contents, from) {
+    if !is_there(alloc, contents, from)? {
         return Err(OpRefused::NotFound);
     }
     if *from == *to {
@@ -95,10 +96,11 @@ fn rename_course<C: Contents>(
         return Err(OpRefused::HoldsSource);
     }
     refuse_beneath(alloc, contents, to)?;
-    course_onto(is_there(contents, to), overwrite, ignore)
+    course_onto(is_there(alloc, contents, to)?, overwrite, ignore)
 }
 
 fn delete_course<C: Contents>(
+    alloc: Global,
     contents: &C,
     path: &RelPath,
     recursive: bool,
@@ -106,13 +108,13 @@ fn delete_course<C: Contents>(
 ) -> Result<Course, OpRefused>
     ensures course { IfOk result
         (λ course. delete_outcome (C.files contents.now) path.now recursive ignore ≡ outcome_by course Done) }
-    ensures refused { IfErr result
-        (λ why. delete_outcome (C.files contents.now) path.now recursive ignore ≡ Refused why) }
+    ensures refused { IfErr result (λ why. (why ≡ OpRefused.Memory)
+        ⊎ (delete_outcome (C.files contents.now) path.now recursive ignore ≡ Refused why)) }
 {
     if contents.get(path).is_some() {
         return Ok(Course::Goes);
     }
-    if contents.is_folder(path) {
+    if contents.is_folder(alloc, path)? {
         if recursive {
             return Ok(Course::Goes);
         }
@@ -125,10 +127,13 @@ fn delete_course<C: Contents>(
 }
 
 /// Whether a file or a folder is at the path.
-fn is_there<C: Contents>(contents: &C, path: &RelPath) -> bool
-    ensures { result ≡ is_there (C.files contents.now) path.now }
+fn is_there<C: Contents>(alloc: Global, contents: &C, path: &RelPath) -> Result<bool, Memory>
+    ensures { IfOk result (λ there. there ≡ is_there (C.files contents.now) path.now) }
 {
-    contents.get(path).is_some() || contents.is_folder(path)
+    if contents.get(path).is_some() {
+        return Ok(true);
+    }
+    contents.is_folder(alloc, path)
 }
 
 /// Refuses a path above which a file stands.

@@ -6,7 +6,8 @@ ghost use Rattle.wse_resource.specs.Course.{is_past_limit};
 
 use crate::refused::OpRefused;
 use std::alloc::Global;
-use wse_path::{Contents, Duplicate, Files, Items, Memory, RelPath};
+use wse_overlay::Contents;
+use wse_path::{Duplicate, Files, Items, Memory, RelPath};
 
 /// Whether the path is the other one, or under it.
 pub fn is_within(path: &RelPath, other: &RelPath) -> bool

@@ -2,7 +2,7 @@
 ghost use Rattle.std.specs.Prelude.{◌≡◌, ◌⊎◌, Ok, Err, IfOk, IfErr, OnOk};
 ghost use Rattle.wse_resource.specs.Table.{outcome};
 ghost use Rattle.wse_resource.specs.Table.Outcome.{Done, Refused};
-ghost use Rattle.wse_resource.specs.After.{after};
+ghost use Rattle.wse_resource.specs.After.{after_operation};
 ghost use Rattle.wse_resource.specs.Course.{limit_outcome};
 ghost use Rattle.wse_resource.specs.Operated.{operated, changed, LeavesTree};
 
@@ -10,14 +10,15 @@ use crate::course::{Course, course_of};
 use crate::over::{remove_within, rename};
 use crate::refused::OpRefused;
 use std::alloc::Global;
-use wse_path::{Bytes, Changes, Duplicate, Overlay, ResourceOp, Tree};
+use wse_overlay::{Contents, Overlay};
+use wse_path::{Bytes, Changes, Duplicate, ResourceOp, Tree};
 
-/// Does the operation over a tree with changes (LSP 3.17, "Resource changes"; the order of the refusals is this project's
+/// Does the operation over files with changes (LSP 3.17, "Resource changes"; the order of the refusals is this project's
 /// own rule). After a refusal all is as it was, but after Memory some of the operation may be done. It costs about what
 /// is at and under its paths, times a logarithm; the bytes of moved files alone are copied.
-pub fn operate_on(
+pub fn operate_on<C: Contents>(
     alloc: Global,
-    overlay: &mut Overlay<'_>,
+    overlay: &mut Overlay<'_, C>,
     op: &ResourceOp,
 ) -> Result<(), OpRefused>
     ensures done { OnOk result (operated overlay.old.files op.now ≡ Ok overlay.new.files) }
@@ -33,9 +34,13 @@ pub fn operate_on(
 }
 
 /// Does an operation that only a limit may still refuse.
-fn done_on(alloc: Global, overlay: &mut Overlay<'_>, op: &ResourceOp) -> Result<(), OpRefused>
+fn done_on<C: Contents>(
+    alloc: Global,
+    overlay: &mut Overlay<'_, C>,
+    op: &ResourceOp,
+) -> Result<(), OpRefused>
     requires { outcome overlay.old.files op.now ≡ limit_outcome overlay.old.files op.now }
-    ensures done { OnOk result (overlay.new.files ≡ after overlay.old.files op.now) }
+    ensures done { OnOk result (overlay.new.files ≡ after_operation overlay.old.files op.now) }
     ensures fits { OnOk result (limit_outcome overlay.old.files op.now ≡ Done) }
     ensures refused { IfErr result (λ why. (why ≡ OpRefused.Memory)
         ⊎ ((limit_outcome overlay.old.files op.now ≡ Refused why) × (overlay.new.files ≡ overlay.old.files))) }

@@ -1,20 +1,24 @@
-// Files taken away and put over a tree.
+// Files taken away and put over others.
 ghost use Rattle.std.specs.Prelude.{◌≡◌, ◌⊎◌, ◌++◌, [], ◌∷◌, None, true, IfOk, IfErr, OnOk};
 ghost use Rattle.wse_path.specs.Tree.{put_all, file_above, IsTree};
 ghost use Rattle.wse_path.specs.declared.operation.ResourceOp.TheVariants.{Rename};
 ghost use Rattle.wse_resource.specs.Table.{files_within, past_limit, unless_past_limit};
 ghost use Rattle.wse_resource.specs.Table.Outcome.{Done, Refused};
-ghost use Rattle.wse_resource.specs.After.{removed_each, without, moved_files, after};
+ghost use Rattle.wse_resource.specs.After.{removed_each, without, moved_files, after_operation};
 ghost use Rattle.wse_resource.specs.Course.{is_past_limit};
 
-use crate::copies::copy_bytes;
 use crate::moves::{moved_path, paths_within};
 use crate::refused::OpRefused;
 use std::alloc::Global;
-use wse_path::{Bytes, Contents, Memory, Overlay, RelPath};
+use wse_overlay::{Contents, Overlay};
+use wse_path::{Bytes, Memory, RelPath, copy_bytes};
 
 /// Takes each of the paths away.
-fn remove_all(alloc: Global, overlay: &mut Overlay<'_>, paths: &[RelPath]) -> Result<(), Memory>
+fn remove_all<C: Contents>(
+    alloc: Global,
+    overlay: &mut Overlay<'_, C>,
+    paths: &[RelPath],
+) -> Result<(), Memory>
     ensures files { OnOk result (overlay.new.files ≡ removed_each paths.now overlay.old.files) }
     ensures base { overlay.new.base ≡ overlay.old.base }
 {
@@ -25,7 +29,11 @@ fn remove_all(alloc: Global, overlay: &mut Overlay<'_>, paths: &[RelPath]) -> Re
 }
 
 /// Takes all at and under the path away.
-pub fn remove_within(alloc: Global, overlay: &mut Overlay<'_>, path: &RelPath) -> Result<(), Memory>
+pub fn remove_within<C: Contents>(
+    alloc: Global,
+    overlay: &mut Overlay<'_, C>,
+    path: &RelPath,
+) -> Result<(), Memory>
     ensures files { OnOk result (overlay.new.files ≡ without overlay.old.files path.now) }
     ensures base { overlay.new.base ≡ overlay.old.base }
 {
@@ -34,7 +42,10 @@ pub fn remove_within(alloc: Global, overlay: &mut Overlay<'_>, path: &RelPath) -
 }
 
 /// Puts each of the files.
-fn put_all(overlay: &mut Overlay<'_>, files: Vec<(RelPath, Bytes)>) -> Result<(), Memory>
+fn put_all<C: Contents>(
+    overlay: &mut Overlay<'_, C>,
+    files: Vec<(RelPath, Bytes)>,
+) -> Result<(), Memory>
     requires { IsTree (put_all files.items overlay.old.files) }
     ensures files { OnOk result (overlay.new.files ≡ put_all files.items overlay.old.files) }
     ensures base { overlay.new.base ≡ overlay.old.base }
@@ -46,9 +57,9 @@ fn put_all(overlay: &mut Overlay<'_>, files: Vec<(RelPath, Bytes)>) -> Result<()
 }
 
 /// A copy of each file at and under `from`, where it goes when `from` becomes `to`.
-fn moved_files(
+fn moved_files<C: Contents>(
     alloc: Global,
-    overlay: &Overlay<'_>,
+    overlay: &Overlay<'_, C>,
     from: &RelPath,
     to: &RelPath,
 ) -> Result<Vec<(RelPath, Bytes)>, OpRefused>
@@ -81,14 +92,14 @@ fn push_copy(
 
 /// Moves all at and under `from` to `to`, where nothing is left of what was there. All limits are tried before anything
 /// is changed.
-pub fn rename(
+pub fn rename<C: Contents>(
     alloc: Global,
-    overlay: &mut Overlay<'_>,
+    overlay: &mut Overlay<'_, C>,
     from: &RelPath,
     to: &RelPath,
 ) -> Result<(), OpRefused>
     requires { file_above overlay.old.files to.now ≡ None }
-    ensures done { OnOk result (overlay.new.files ≡ after overlay.old.files (Rename from.now to.now true true)) }
+    ensures done { OnOk result (overlay.new.files ≡ after_operation overlay.old.files (Rename from.now to.now true true)) }
     ensures fits { OnOk result (unless_past_limit (past_limit overlay.old.files from.now to.now) ≡ Done) }
     ensures refused { IfErr result (λ why. (why ≡ OpRefused.Memory)
         ⊎ ((unless_past_limit (past_limit overlay.old.files from.now to.now) ≡ Refused why)

@@ -4,16 +4,16 @@ ghost use Rattle.wse_path.specs.Tree.{file_above, put_file, HasRoom};
 ghost use Rattle.wse_path.specs.declared.operation.ResourceOp.TheVariants.{Rename};
 ghost use Rattle.wse_resource.specs.Table.{Outcome, outcome, is_within, moved, past_limit, unless_past_limit};
 ghost use Rattle.wse_resource.specs.Table.Outcome.{Done, Refused};
-ghost use Rattle.wse_resource.specs.After.{after};
+ghost use Rattle.wse_resource.specs.After.{after_operation};
 ghost use Rattle.wse_resource.specs.Course.{is_past_limit, limit_outcome};
 ghost use Rattle.wse_resource.specs.Operated.{operated};
 
-use crate::copies::{copy_bytes, file_at, without};
+use crate::copies::without;
 use crate::course::{Course, course_of};
 use crate::moves::{is_within, moved_path};
 use crate::refused::OpRefused;
 use std::alloc::Global;
-use wse_path::{Bytes, Duplicate, Memory, RelPath, ResourceOp, Tree};
+use wse_path::{Bytes, Duplicate, Memory, RelPath, ResourceOp, Tree, copy_bytes};
 
 /// The tree after the operation, as it is defined: built whole, file by file.
 pub fn operated_slowly(alloc: Global, tree: &Tree, op: &ResourceOp) -> Result<Tree, OpRefused>
@@ -30,7 +30,7 @@ pub fn operated_slowly(alloc: Global, tree: &Tree, op: &ResourceOp) -> Result<Tr
 /// The tree after an operation that only a limit may still refuse.
 fn done_slowly(alloc: Global, tree: &Tree, op: &ResourceOp) -> Result<Tree, OpRefused>
     requires { outcome tree.now.files op.now ≡ limit_outcome tree.now.files op.now }
-    ensures tree { IfOk result (λ new. new.files ≡ after tree.now.files op.now) }
+    ensures tree { IfOk result (λ new. new.files ≡ after_operation tree.now.files op.now) }
     ensures fits { OnOk result (limit_outcome tree.now.files op.now ≡ Done) }
     ensures refused { IfErr result (λ why. (why ≡ OpRefused.Memory)
         ⊎ (limit_outcome tree.now.files op.now ≡ Refused why)) }
@@ -60,7 +60,7 @@ fn renamed_slowly(
     to: &RelPath,
 ) -> Result<Tree, OpRefused>
     requires { file_above tree.now.files to.now ≡ None }
-    ensures tree { IfOk result (λ new. new.files ≡ after tree.now.files (Rename from.now to.now true true)) }
+    ensures tree { IfOk result (λ new. new.files ≡ after_operation tree.now.files (Rename from.now to.now true true)) }
     ensures fits { OnOk result (unless_past_limit (past_limit tree.now.files from.now to.now) ≡ Done) }
     ensures refused { IfErr result (λ why. (why ≡ OpRefused.Memory)
         ⊎ (unless_past_limit (past_limit tree.now.files from.now to.now) ≡ Refused why)) }
@@ -68,7 +68,7 @@ fn renamed_slowly(
     let apart = without(alloc, tree, from)?;
     let mut new = without(alloc, &apart, to)?;
     for index in 0..tree.count() {
-        let (file, bytes) = file_at(tree, index);
+        let (file, bytes) = tree.file_at(index);
         put_moved_within(alloc, &mut new, file, bytes, from, to)?;
     }
     Ok(new)

@@ -10,4 +10,6 @@ mod given;
 #[cfg(test)]
 mod limits;
 #[cfg(test)]
+mod many;
+#[cfg(test)]
 mod overlay;

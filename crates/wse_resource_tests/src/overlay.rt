@@ -2,25 +2,41 @@
 use crate::given::{bytes, name_of, op_of, path, push_bytes, text_of, tree_of};
 use std::alloc::Global;
 use std::test::Fail;
-use wse_path::{Bytes, Contents, Files, Memory, Overlay, RelPath, ResourceOp, Tree};
+use wse_overlay::{Contents, Overlay};
+use wse_path::{Bytes, Files, Memory, RelPath, ResourceOp, Tree};
 use wse_resource::{OpRefused, operate_on};
 
 /// Puts a file that fits, or is there, and else nothing.
-fn put(overlay: &mut Overlay<'_>, path: RelPath, bytes: Bytes) -> Result<(), Memory> {
-    if overlay.get(&path).is_some() || overlay.fits(&path) {
+fn put<C: Contents>(
+    alloc: Global,
+    overlay: &mut Overlay<'_, C>,
+    path: RelPath,
+    bytes: Bytes,
+) -> Result<(), Memory> {
+    if overlay.get(&path).is_some() || overlay.fits(alloc, &path)? {
         overlay.put(path, bytes)?;
     }
     Ok(())
 }
 
-/// The tree without the files `gone`, and with those of `new`, each with the text `new`.
-fn changed<'a>(alloc: Global, tree: &'a Tree, gone: &str, new: &str) -> Result<Overlay<'a>, Fail> {
-    let mut overlay = Overlay::new(alloc, tree);
+/// The files below without those of `gone`, and with those of `new`, each with the text `new`.
+fn changed<'a, C: Contents>(
+    alloc: Global,
+    below: &'a C,
+    gone: &str,
+    new: &str,
+) -> Result<Overlay<'a, C>, Fail> {
+    let mut overlay = Overlay::new(alloc, below);
     for file in gone.split(' ') {
         overlay.remove(alloc, &path(alloc, file)?)?;
     }
     for file in new.split(' ') {
-        put(&mut overlay, path(alloc, file)?, bytes(alloc, "new")?)?;
+        put(
+            alloc,
+            &mut overlay,
+            path(alloc, file)?,
+            bytes(alloc, "new")?,
+        )?;
     }
     Ok(overlay)
 }
@@ -44,11 +60,15 @@ fn push_under(alloc: Global, text: &mut String, files: &Files) -> Result<(), Mem
 }
 
 /// The text of a file, the file above it, whether it is a folder, and the files under it.
-fn seen(alloc: Global, overlay: &Overlay<'_>, at: &RelPath) -> Result<String, Memory> {
+fn seen<C: Contents>(alloc: Global, overlay: &C, at: &RelPath) -> Result<String, Memory> {
     let mut text = String::new(alloc);
     push_bytes(&mut text, overlay.get(at).unwrap_or(b"-"))?;
     push_above(alloc, &mut text, overlay.file_above(at))?;
-    text.push_str(if overlay.is_folder(at) { " holds" } else { "" })?;
+    text.push_str(if overlay.is_folder(alloc, at)? {
+        " holds"
+    } else {
+        ""
+    })?;
     push_under(alloc, &mut text, &overlay.under(alloc, at)?)?;
     Ok(text)
 }
@@ -70,14 +90,14 @@ b.c | b.c
 d | - holds d/y d/z
 d/x | -";
 
-fn shows(alloc: Global, overlay: &Overlay<'_>, row: &str) -> Result<bool, Fail> {
+fn shows<C: Contents>(alloc: Global, overlay: &C, row: &str) -> Result<bool, Fail> {
     let mut parts = row.split('|');
     let at = parts.next().unwrap_or("").trim();
     let wanted = parts.next().unwrap_or("?").trim();
     Ok(seen(alloc, overlay, &path(alloc, at)?)?.as_str() == wanted)
 }
 
-fn shows_all(alloc: Global, overlay: &Overlay<'_>, rows: &str) -> Result<bool, Fail> {
+fn shows_all<C: Contents>(alloc: Global, overlay: &C, rows: &str) -> Result<bool, Fail> {
     for row in rows.lines() {
         if !shows(alloc, overlay, row)? {
             return Ok(false);
@@ -118,6 +138,27 @@ fn a_folder_in_place_of_a_file_is_shown(rt: HostRuntime) -> Result<(), Fail> {
     Ok(())
 }
 
+/// What a path shows over `a` and `d/x`, after `d/x` is taken away and `d` is put, and then `a` is taken away and `a/b`
+/// is put over that, and `d` put once more.
+const TWICE: &str = "a | - holds a/b
+a/b | new
+a/b/c | - beneath a/b
+d | new
+d/x | - beneath d";
+
+fn shows_twice(alloc: Global, files: &str, rows: &str) -> Result<bool, Fail> {
+    let tree = tree_of(alloc, files)?;
+    let once = changed(alloc, &tree, "d/x", "d")?;
+    let twice = changed(alloc, &once, "a", "a/b d")?;
+    Ok(shows_all(alloc, &twice, rows)? && shows_all(alloc, &once, FILE_FOR_FOLDER)?)
+}
+
+#[test]
+fn changes_stand_over_changes(rt: HostRuntime) -> Result<(), Fail> {
+    assert!(rt; shows_twice(rt.alloc(), "a d/x", TWICE)?);
+    Ok(())
+}
+
 /// Files, operations one after another, and what they refuse and change together.
 const RUNS: &str = "a | delete a | a a>-;
 a d/x | delete d/x; create d; rename d e | d/x d/x>-;e ->;
@@ -135,7 +176,11 @@ fn name_and_space(alloc: Global, why: &OpRefused) -> Result<String, Memory> {
 }
 
 /// Does the operation, and tells the refusal.
-fn refusal(alloc: Global, overlay: &mut Overlay<'_>, op: &ResourceOp) -> Result<String, Memory> {
+fn refusal(
+    alloc: Global,
+    overlay: &mut Overlay<'_, Tree>,
+    op: &ResourceOp,
+) -> Result<String, Memory> {
     match operate_on(alloc, overlay, op) {
         Ok(()) => Ok(String::new(alloc)),
         Err(why) => name_and_space(alloc, &why),

@@ -1,5 +1,5 @@
 -- Versions that rise, path by path.
-use Rattle.std.proofs.Common.{◌≡◌, ℕ, ◌+◌, ◌≤◌, true, false, cond, List, [], ◌∷◌, map, Some, refl, sym, ap, subst, ◌∙◌, arith}
+use Rattle.std.proofs.Common.{◌≡◌, ℕ, ◌+◌, ◌<◌, ◌≤◌, true, false, cond, List, [], ◌∷◌, map, Some, refl, sym, ap, subst, ◌∙◌, arith}
 use Rattle.std.specs.Prelude.{All, ◌-◌, ◌^◌, ◌&&◌}
 use Rattle.std.specs.List.{list_any, AllByRecursion}
 use Rattle.std.proofs.lemmas.List.Elements.{All-cons, All-map}
@@ -147,3 +147,11 @@ rises_small top vs (b ∷ bs) low rises =
 -- the same by pairs
 pub pairs_small : (vs : Numbers) (bs : List Numbered) → All (λ b. version_of vs b.path + b.number ≤ 2 ^ 31 - 1) bs → All (λ b. version_of vs b.0 + b.1 ≤ 2 ^ 31 - 1) (pairs_of bs)
 pairs_small vs bs all = All-map (λ b. version_of vs b.0 + b.1 ≤ 2 ^ 31 - 1) (λ (b : Numbered). (b.path, b.number)) bs all
+
+-- each version rises
+pub rises_some : (bs : List Numbered) → AreRises bs → All (λ b. 0 < b.number) bs
+rises_some [] rises = λ k d l. absurd (omega arith)
+rises_some (b ∷ bs) rises = All-cons (λ (x : Numbered). 0 < x.number) b bs (let one = rises.0.0 in omega (arith, one)) (rises_some bs rises.1)
+
+pub pairs_some : (bs : List Numbered) → All (λ b. 0 < b.number) bs → All (λ b. 0 < b.1) (pairs_of bs)
+pairs_some bs all = All-map (λ (b : Path × ℕ). 0 < b.1) (λ (b : Numbered). (b.path, b.number)) bs all

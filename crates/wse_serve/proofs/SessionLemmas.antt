@@ -9,7 +9,7 @@ use Rattle.wse_disk.specs.Changes.{HasChanged, HasChangedOnly, LeadsToTree}
 use Rattle.wse_path.specs.Tree.{Entries}
 use Rattle.wse_serve.specs.Scene.{DiskAt, disk_at}
 use Rattle.wse_serve.specs.Run.{Ran}
-use Rattle.wse_serve.specs.Edits.{State, edits, after}
+use Rattle.wse_serve.specs.Edits.{RunState, edits, after_line}
 use Rattle.wse_serve.specs.Session.{LeavesWithin, LeavesBetween}
 use Rattle.wse_path.specs.Changes.{changes_between, erased, stored, LeadToTree, DiffersOnlyAt}
 use Rattle.wse_path.specs.declared.change.Change.{Change}
@@ -18,15 +18,15 @@ use Rattle.wse_serve.specs.declared.session.Stopped.{Stopped}
 use Rattle.wse_serve.specs.declared.session.Stopped.TheVariants.{Disk, Memory}
 use Rattle.wse_serve.proofs.RunLemmas.{ran_undone, ran_torn}
 
-pub ran_stopped : {D : Type 0} (told : D → Option Standing) (moment : D → ℕ) (root : Parts) (limits : Limits) (before : DiskAt) (n : ℕ) (s : State) (line : List ℕ) (stopped : Stopped D) → before.moment ≤ moment (fault_disk (fault_of stopped))
-    → ((after root limits s line).files ≡ s.files → told (fault_disk (fault_of stopped)) ≡ before.told)
-    → (LeavesBetween told s (after root limits s line) stopped)
+pub ran_stopped : {D : Type 0} (told : D → Option Standing) (moment : D → ℕ) (root : Parts) (limits : Limits) (before : DiskAt) (n : ℕ) (s : RunState) (line : List ℕ) (stopped : Stopped D) → before.moment ≤ moment (fault_disk (fault_of stopped))
+    → ((after_line root limits s line).files ≡ s.files → told (fault_disk (fault_of stopped)) ≡ before.told)
+    → (LeavesBetween told s (after_line root limits s line) stopped)
     → Ran (edits root limits) (is_disk_fault {D = D} (Err (fault_of stopped))) before (disk_at moment told (fault_disk (fault_of stopped))) n s (line ∷ []) []
 ran_stopped told moment root limits before n s line (Disk disk) later kept left = ran_torn (edits root limits) before (disk_at moment told disk) n s line later kept left
 ran_stopped told moment root limits before n s line (Memory disk) later kept left = ran_undone (edits root limits) false before (disk_at moment told disk) n s line later kept left
 
 -- what changes that stopped leave, where they lead to the next state
-pub leaves_between : {D : Type 0} (told : D → Option Standing) (s next : State) (cs : List Change) → cs ≡ changes_between s.files next.files → (stopped : Stopped D) → LeavesWithin told s cs stopped → LeavesBetween told s next stopped
+pub leaves_between : {D : Type 0} (told : D → Option Standing) (s next : RunState) (cs : List Change) → cs ≡ changes_between s.files next.files → (stopped : Stopped D) → LeavesWithin told s cs stopped → LeavesBetween told s next stopped
 leaves_between told s next cs e (Disk disk) left = subst (λ es. WhereTold (told disk) (λ t. DiffersOnlyAt es s.files t.reading.files)) e left
 leaves_between told s next cs e (Memory disk) left = left
 

@@ -23,12 +23,12 @@ use Rattle.wse_apply.specs.Limit.{limit_hit, hit_by, hit_above, file_count, firs
 use Rattle.wse_apply.specs.Setting.{SettingState}
 use Rattle.wse_apply.specs.Performed.{performed}
 use Rattle.wse_apply.specs.declared.performed.Performed.{Performed}
-use Rattle.wse_serve.specs.Edits.{State, raised, with_versions, whole_hit, one_if_any, done_by, hit_by_edit, answer_by, state_by, answer_to, after_edit}
+use Rattle.wse_serve.specs.Edits.{RunState, raised, with_versions, whole_hit, one_if_any, done_by, hit_by_edit, answer_by, state_by, answer_to, after_edit}
 use Rattle.wse_serve.specs.declared.answer.Answer.TheVariants as answers
 use Rattle.wse_locks.specs.Locks.{Holders}
-use Rattle.wse_serve.specs.Session.{IsSound, pairs_of}
+use Rattle.wse_serve.specs.Session.{KeepsLimits, pairs_of}
 use Rattle.wse_serve.specs.Start.{start_hit}
-use Rattle.wse_serve.proofs.BumpLemmas.{AreRises, raised_low, raised_there, rises_small}
+use Rattle.wse_serve.proofs.BumpLemmas.{AreRises, raised_low, raised_there, rises_small, rises_some}
 use Rattle.wse_serve.proofs.EditLemmas.{Stands, leads, left_stands, left_by, bumps_sorted, bumps_rise, quiet}
 
 or_none : {X : Type 0} (o p : Option X) → option_or o p ≡ None → (o ≡ None) × (p ≡ None)
@@ -102,7 +102,7 @@ counts_low serial vs (b ∷ bs) q low two = omega (arith, low, two)
 
 -- ---- an edit
 
-module _ (limits : Limits) (s : State) (by : ℕ) (edit : Edit) (within : are_within limits standard ≡ true) (sound : IsSound limits s) where
+module _ (limits : Limits) (s : RunState) (by : ℕ) (edit : Edit) (within : are_within limits standard ≡ true) (sound : KeepsLimits limits s) where
   abbrev pub setting : SettingState
   setting = record { versions = s.versions; locks = []; limits = limits; by = by; encoding = edit.encoding }
 
@@ -143,7 +143,7 @@ module _ (limits : Limits) (s : State) (by : ℕ) (edit : Edit) (within : are_wi
   set_is = lead_set s.files done.changes edit_leads
 
   -- the state behind an edit that passes no limit
-  pub sound_made : hit_by_edit limits s by edit ≡ None → IsSound limits (state_by s done None)
+  pub sound_made : hit_by_edit limits s by edit ≡ None → KeepsLimits limits (state_by s done None)
   sound_made h = record {
     tree = subst IsTree (sym set_is) (left_stands setting s.files stands edit).tree;
     fits = ap (limit_hit limits) set_is ∙ (left_stands setting s.files stands edit).fits;
@@ -153,7 +153,7 @@ module _ (limits : Limits) (s : State) (by : ℕ) (edit : Edit) (within : are_wi
     there = raised_there s.versions done.bumps edit_sorted edit_rises sound.there;
   }
 
-  pub sound_after : (hit : Option Hit) → hit_by_edit limits s by edit ≡ hit → IsSound limits (state_by s done hit)
+  pub sound_after : (hit : Option Hit) → hit_by_edit limits s by edit ≡ hit → KeepsLimits limits (state_by s done hit)
   sound_after None h = sound_made h
   sound_after (Some hit) h = sound
 
@@ -168,6 +168,9 @@ module _ (limits : Limits) (s : State) (by : ℕ) (edit : Edit) (within : are_wi
 
     pub found_small : None ≡ hit_by_edit limits s by edit → All (λ b. version_of s.versions b.path + b.number ≤ 2 ^ 31 - 1) found.bumps
     found_small h = subst (λ (d : Performed). All (λ b. version_of s.versions b.path + b.number ≤ 2 ^ 31 - 1) d.bumps) (sym is) (edit_small (sym h))
+
+    pub found_some : All (λ b. 0 < b.number) found.bumps
+    found_some = subst (λ (d : Performed). All (λ b. 0 < b.number) d.bumps) (sym is) (rises_some done.bumps edit_rises)
 
     pub found_sorted : is_sorted path_cmp (pairs_of found.bumps) ≡ true
     found_sorted = ap (λ (d : Performed). is_sorted path_cmp (pairs_of d.bumps)) is ∙ edit_sorted
@@ -199,16 +202,16 @@ module _ (limits : Limits) (s : State) (by : ℕ) (edit : Edit) (within : are_wi
     between_made h =
         ap (λ (d : Performed). d.changes) is ∙ between
         ∙ ap (λ (d : Performed). changes_between s.files (state_by s d None).files) (sym is)
-        ∙ ap (λ (t : State). changes_between s.files t.files) (after_made h)
+        ∙ ap (λ (t : RunState). changes_between s.files t.files) (after_made h)
 
     -- where the files stay as they are nothing is made
     pub nothing_made : None ≡ hit_by_edit limits s by edit → (after_edit limits s by edit).files ≡ s.files → found.changes ≡ []
     nothing_made h same = between_made h ∙ ap (λ (es : Entries). changes_between s.files es) same ∙ no_changes s.files
 
-  pub sound_next : IsSound limits (after_edit limits s by edit)
+  pub sound_next : KeepsLimits limits (after_edit limits s by edit)
   unfolding after_edit
   sound_next = sound_after (hit_by_edit limits s by edit) refl
 
 -- no locks are held
-pub done_same : (limits : Limits) (s : State) (by : ℕ) (edit : Edit) (locks : Holders) (found : Performed) → locks ≡ [] → found ≡ performed s.files s.versions locks limits by edit → found ≡ done_by limits s by edit
+pub done_same : (limits : Limits) (s : RunState) (by : ℕ) (edit : Edit) (locks : Holders) (found : Performed) → locks ≡ [] → found ≡ performed s.files s.versions locks limits by edit → found ≡ done_by limits s by edit
 done_same limits s by edit locks found none is = is ∙ ap (λ (l : Holders). performed s.files s.versions l limits by edit) none

@@ -12,7 +12,7 @@ use Rattle.url.specs.Parts.{Parts}
 use Rattle.wse_disk.specs.Standing.{Standing}
 use Rattle.wse_disk.specs.Told.{ReadsFiles, files_of}
 use Rattle.wse_path.specs.declared.limits.Limits.{Limits}
-use Rattle.wse_serve.specs.Edits.{State, edits, first_versions, StandsFor}
+use Rattle.wse_serve.specs.Edits.{RunState, edits, first_versions, IsOnDisk}
 use Rattle.wse_serve.specs.Start.{start_hit, IsStart, RunsEdits}
 use Rattle.wse_serve.specs.declared.serving.ServeEnd.{ServeEnd}
 use Rattle.wse_serve.specs.declared.serving.ServeEnd.TheVariants.{Done, Read, Write, Disk, Memory, InputLimit, TooBig}
@@ -20,7 +20,7 @@ use Rattle.wse_serve.proofs.RunLemmas.{ran_silent, holds_none}
 use Rattle.wse_serve.proofs.Says.{IsUnread, whole_none, runs_by}
 
 -- the state before the first line, over these files
-abbrev pub first_state : Entries → State
+abbrev pub first_state : Entries → RunState
 first_state files = record { files = files; versions = first_versions files; serial = 0; elements = 0 }
 
 module _ {S : Type 0} (m : Machine S) (s : S) (max_input : ℕ) (left : Option (List ℕ)) (pieces : Option (List Piece)) where
@@ -73,13 +73,13 @@ unread_ends (TooBig hit) is = inl refl
 
 module _ (root : Parts) (limits : Limits) (max_input : ℕ) (left : Option (List ℕ)) (pieces : Option (List Piece)) where
   -- no line was read
-  pub edits_unread : (before now : DiskAt) (first : State) (end : ServeEnd) → IsUnread end → ((ending_of end).too_big ≡ true → IsSome (start_hit limits first.files)) → before.moment ≤ now.moment → IsStart before.told first → (now.told ≡ before.told)
+  pub edits_unread : (before now : DiskAt) (first : RunState) (end : ServeEnd) → IsUnread end → ((ending_of end).too_big ≡ true → IsSome (start_hit limits first.files)) → before.moment ≤ now.moment → IsStart before.told first → (now.told ≡ before.told)
       → RunsEdits root limits max_input (scene left pieces before) (scene left pieces now) (ending_of end)
   unfolding unstarted runs_by
   edits_unread before now first end is big later start same = record {
     first = first;
     start = start;
-    runs = unstarted (edits root limits) first max_input left pieces before now end is later same (subst (λ t. StandsFor first t) (sym same) start.tree);
+    runs = unstarted (edits root limits) first max_input left pieces before now end is later same (subst (λ t. IsOnDisk first t) (sym same) start.tree);
     too_big = big;
     only_too_big = λ h. unread_ends end is;
     unread = λ h. (refl, refl);
@@ -90,7 +90,7 @@ module _ (root : Parts) (limits : Limits) (max_input : ℕ) (left : Option (List
   no_some (Some x) e h = cc
 
   -- lines may have been read, since the tree passes no limit
-  pub edits_read : (before middle : DiskAt) (now : Scene) (first : State) (ending : Ending) → start_hit limits first.files ≡ None → ending.too_big ≡ false → before.moment ≤ middle.moment → (middle.told ≡ before.told) → IsStart before.told first
+  pub edits_read : (before middle : DiskAt) (now : Scene) (first : RunState) (ending : Ending) → start_hit limits first.files ≡ None → ending.too_big ≡ false → before.moment ≤ middle.moment → (middle.told ≡ before.told) → IsStart before.told first
       → Runs (edits root limits) first max_input (scene left pieces middle) now ending → RunsEdits root limits max_input (scene left pieces before) now ending
   edits_read before middle now first ending none started later same start runs = record {
     first = first;
@@ -107,7 +107,7 @@ module _ (root : Parts) (limits : Limits) (max_input : ℕ) (left : Option (List
   unfolding runs_earlier
   edits_earlier before middle now ending later same r = record {
     first = r.first;
-    start = record { tree = subst (λ t. StandsFor r.first t) same r.start.tree; versions = r.start.versions; none_recorded = r.start.none_recorded; none_made = r.start.none_made };
+    start = record { tree = subst (λ t. IsOnDisk r.first t) same r.start.tree; versions = r.start.versions; none_recorded = r.start.none_recorded; none_made = r.start.none_made };
     runs = runs_earlier (edits root limits) r.first max_input left pieces before middle now ending later same r.runs;
     too_big = r.too_big;
     only_too_big = r.only_too_big;

@@ -32,7 +32,7 @@ use Rattle.wse_serve.specs.declared.reply.Reply.TheVariants as replies
 
 -- The tree, the versions of the paths, how many edits of this run changed the tree or raised a version, and how many of
 -- them made an element.
-pub record State : Type 0 where
+pub record RunState : Type 0 where
   pub files : Entries
   pub versions : Numbers
   pub serial : ℕ
@@ -75,12 +75,12 @@ element_of elements (c ∷ more) = Some (elements + 1)
 
 -- What an edit is answered that does this, and the state behind it, by the limit that it passes as a whole. One that
 -- passes a limit changes nothing.
-abbrev pub answer_by : State → Performed → Option Hit → Answer
+abbrev pub answer_by : RunState → Performed → Option Hit → Answer
 answer_by s done (Some hit) = answers.Edit [] None None (Some hit) done.skipped
 answer_by s done None =
     answers.Edit (raised s.versions done.bumps) (element_of s.elements done.changes) done.failed None done.skipped
 
-abbrev pub state_by : State → Performed → Option Hit → State
+abbrev pub state_by : RunState → Performed → Option Hit → RunState
 state_by s done (Some hit) = s
 state_by s done None = record {
   files = set_files (contents_of done.changes) s.files;
@@ -90,49 +90,49 @@ state_by s done None = record {
 }
 
 -- What the edit of this participant does in this state, and the limit that it passes as a whole.
-abbrev pub done_by : Limits → State → ℕ → Edit → Performed
+abbrev pub done_by : Limits → RunState → ℕ → Edit → Performed
 done_by limits s by edit = performed s.files s.versions [] limits by edit
 
-abbrev pub hit_by_edit : Limits → State → ℕ → Edit → Option Hit
+abbrev pub hit_by_edit : Limits → RunState → ℕ → Edit → Option Hit
 hit_by_edit limits s by edit = whole_hit limits s.serial s.versions (raised s.versions (done_by limits s by edit).bumps)
 
-unfoldable pub answer_to : Limits → State → ℕ → Edit → Answer
+unfoldable pub answer_to : Limits → RunState → ℕ → Edit → Answer
 answer_to limits s by edit = answer_by s (done_by limits s by edit) (hit_by_edit limits s by edit)
 
-unfoldable pub after_edit : Limits → State → ℕ → Edit → State
+unfoldable pub after_edit : Limits → RunState → ℕ → Edit → RunState
 after_edit limits s by edit = state_by s (done_by limits s by edit) (hit_by_edit limits s by edit)
 
 -- Other commands than edits aren't built.
-abbrev pub reply_to : Limits → State → Result Command Shape → Reply
+abbrev pub reply_to : Limits → RunState → Result Command Shape → Reply
 reply_to limits s (Ok (commands.Edit by edit)) = replies.Answer (answer_to limits s by edit)
 reply_to limits s (Ok other) = replies.NotBuilt
 reply_to limits s (Err why) = replies.Shape why
 
-abbrev pub after_command : Limits → State → Result Command Shape → State
+abbrev pub after_command : Limits → RunState → Result Command Shape → RunState
 after_command limits s (Ok (commands.Edit by edit)) = after_edit limits s by edit
 after_command limits s (Ok other) = s
 after_command limits s (Err why) = s
 
 -- What a line is answered below this root and under these limits, and what it leaves.
-unfoldable pub reply : Parts → Limits → State → List ℕ → Reply
+unfoldable pub reply : Parts → Limits → RunState → List ℕ → Reply
 reply root limits s line = reply_to limits s (command_in root line)
 
-unfoldable pub after : Parts → Limits → State → List ℕ → State
-after root limits s line = after_command limits s (command_in root line)
+unfoldable pub after_line : Parts → Limits → RunState → List ℕ → RunState
+after_line root limits s line = after_command limits s (command_in root line)
 
 -- What is read is the tree of the state.
-abbrev pub StandsFor : State → Option Standing → Type 0
-StandsFor s told = ReadsFiles told s.files
+abbrev pub IsOnDisk : RunState → Option Standing → Type 0
+IsOnDisk s told = ReadsFiles told s.files
 
 -- What is read is a tree, which differs from that of the state only where the one of the next state does.
-abbrev pub IsTorn : (s next : State) → Option Standing → Type 0
+abbrev pub IsTorn : (s next : RunState) → Option Standing → Type 0
 IsTorn s next told = WhereTold told (λ t. DiffersOnlyAt (changes_between s.files next.files) s.files t.reading.files)
 
-abbrev pub edits : Parts → Limits → Machine State
+abbrev pub edits : Parts → Limits → Machine RunState
 edits root limits = record {
   answer = λ n s line. reply_text n (reply root limits s line);
-  after = after root limits;
-  keeps = λ s line. (after root limits s line).files ≡ s.files;
-  on_disk = StandsFor;
-  torn_by = λ s line. IsTorn s (after root limits s line);
+  after = after_line root limits;
+  keeps = λ s line. (after_line root limits s line).files ≡ s.files;
+  on_disk = IsOnDisk;
+  torn_by = λ s line. IsTorn s (after_line root limits s line);
 }

@@ -14,7 +14,7 @@ use Rattle.wse_disk.specs.Told.{WhereTold, IsSynced}
 use Rattle.wse_disk.specs.Calls.{bytes_or_none}
 use Rattle.wse_apply.specs.Limit.{limit_hit}
 use Rattle.wse_serve.specs.Causes.{CountsFault}
-use Rattle.wse_serve.specs.Edits.{State, StandsFor, IsTorn}
+use Rattle.wse_serve.specs.Edits.{RunState, IsOnDisk, IsTorn}
 use Rattle.wse_serve.specs.declared.session.Session.{Session}
 use Rattle.wse_serve.specs.declared.session.Stopped.{Stopped}
 use Rattle.wse_serve.specs.declared.session.Stopped.TheVariants.{Disk, Memory}
@@ -27,7 +27,7 @@ with_file on_disk files p = if is_present on_disk p && fits files p then put_fil
 abbrev pub LoadsFile : Option Standing → Path → (before after : Entries) → Type 0
 LoadsFile told p before after = WhereTold told (λ s. after ≡ with_file s.reading.files before p)
 
-abbrev pub state_of : {D : Type 0} → Session D → State
+abbrev pub state_of : {D : Type 0} → Session D → RunState
 state_of session = record {
   files = session.tree.files;
   versions = session.versions.entries;
@@ -41,7 +41,7 @@ HasNoZero versions = (q : Path) → find path_cmp q versions ≢ Some 0
 
 -- The files are a tree that passes no limit, no more edits were recorded than may be, each of them made an element at
 -- most, and no version is above what they can have raised it to.
-pub record IsSound (limits : Limits) (s : State) : Type 0 where
+pub record KeepsLimits (limits : Limits) (s : RunState) : Type 0 where
   pub tree : IsTree s.files
   pub fits : limit_hit limits s.files ≡ None
   pub few : s.serial ≤ limits.serial
@@ -71,17 +71,17 @@ disk_after (Err stopped) = stopped_disk stopped
 
 -- What changes that stopped leave on a disk: the tree of before where there was no memory, and else that but for
 -- the paths that change.
-abbrev pub LeavesWithin : {D : Type 0} → (D → Option Standing) → State → List Change → Stopped D → Type 0
+abbrev pub LeavesWithin : {D : Type 0} → (D → Option Standing) → RunState → List Change → Stopped D → Type 0
 LeavesWithin told s changes (Disk disk) = WhereTold (told disk) (λ t. DiffersOnlyAt changes s.files t.reading.files)
-LeavesWithin told s changes (Memory disk) = StandsFor s (told disk)
+LeavesWithin told s changes (Memory disk) = IsOnDisk s (told disk)
 
 -- The same of a step to the next state.
-abbrev pub LeavesBetween : {D : Type 0} → (D → Option Standing) → (s next : State) → Stopped D → Type 0
+abbrev pub LeavesBetween : {D : Type 0} → (D → Option Standing) → (s next : RunState) → Stopped D → Type 0
 LeavesBetween told s next (Disk disk) = IsTorn s next (told disk)
-LeavesBetween told s next (Memory disk) = StandsFor s (told disk)
+LeavesBetween told s next (Memory disk) = IsOnDisk s (told disk)
 
 -- A step to a state with the same files makes no call of the disk: it hands it back as it was.
-abbrev pub LeavesUntouched : {D A : Type 0} → (s next : State) → D → Result (Session D × A) (Stopped D) → Type 0
+abbrev pub LeavesUntouched : {D A : Type 0} → (s next : RunState) → D → Result (Session D × A) (Stopped D) → Type 0
 LeavesUntouched s next old result = next.files ≡ s.files → disk_after result ≡ old
 
 -- The step ended with a fault of the disk.

@@ -12,7 +12,7 @@ use Rattle.wse_apply.specs.Limit.{hit_by, hit_above, first_above, file_count}
 use Rattle.wse_serve.specs.Scene.{Scene}
 use Rattle.wse_serve.specs.Ending.{Ending}
 use Rattle.wse_serve.specs.Run.{Runs}
-use Rattle.wse_serve.specs.Edits.{State, edits, first_versions, StandsFor}
+use Rattle.wse_serve.specs.Edits.{RunState, edits, first_versions, IsOnDisk}
 use Rattle.wse_serve.specs.declared.serving.ServeEnd.{ServeEnd}
 use Rattle.wse_serve.specs.declared.serving.ServeEnd.TheVariants.{TooBig}
 
@@ -24,15 +24,15 @@ start_hit limits files =
     (hit_above TreeBytes limits.tree_bytes (total_bytes files)))
 
 -- The state before the first line: the tree that is read, each of its paths at version 1, and no edit done.
-pub record IsStart (told : Option Standing) (s : State) : Type 0 where
-  pub tree : StandsFor s told
+pub record IsStart (told : Option Standing) (s : RunState) : Type 0 where
+  pub tree : IsOnDisk s told
   pub versions : s.versions ≡ first_versions s.files
   pub none_recorded : s.serial ≡ 0
   pub none_made : s.elements ≡ 0
 
 -- A run of edits from the tree that a disk holds.
 pub record RunsEdits (root : Parts) (limits : Limits) (max_input : ℕ) (before now : Scene) (ending : Ending) : Type 0 where
-  pub first : State
+  pub first : RunState
   pub start : IsStart before.disk.told first
   pub runs : Runs (edits root limits) first max_input before now ending
   -- A tree that passes a limit ends the run, unless the disk fails or there is no memory, and no line is read.

@@ -6,8 +6,8 @@ ghost use Rattle.wse_path.specs.Changes.{LeadToTree};
 ghost use Rattle.wse_path.specs.Limits.{standard};
 ghost use Rattle.wse_path.specs.Versions.{version_of};
 ghost use Rattle.wse_apply.specs.Limit.{are_within};
-ghost use Rattle.wse_serve.specs.Edits.{raised, one_if_any, element_of, answer_by, state_by, answer_to, after_edit, StandsFor};
-ghost use Rattle.wse_serve.specs.Session.{state_of, pairs_of, IsSound, LeavesBetween, LeavesUntouched, LeavesWithin, disk_after, StepCause, StepLasts};
+ghost use Rattle.wse_serve.specs.Edits.{raised, one_if_any, element_of, answer_by, state_by, answer_to, after_edit, IsOnDisk};
+ghost use Rattle.wse_serve.specs.Session.{state_of, pairs_of, KeepsLimits, LeavesBetween, LeavesUntouched, LeavesWithin, disk_after, StepCause, StepLasts};
 
 use crate::answer::Answer;
 use crate::session::{Session, Stopped};
@@ -99,12 +99,12 @@ impl<D: Disk> Session<D> {
         edit: &Edit,
     ) -> Result<(Session<D>, Answer), Stopped<D>>
         requires within { are_within limits.now standard ≡ true }
-        requires agrees { StandsFor (state_of self) (D.told self.disk) }
-        requires sound { IsSound limits.now (state_of self) }
+        requires agrees { IsOnDisk (state_of self) (D.told self.disk) }
+        requires sound { KeepsLimits limits.now (state_of self) }
         ensures state { IfOk result (λ x. state_of x.0 ≡ after_edit limits.now (state_of self) by edit.now) }
         ensures answer { IfOk result (λ x. x.1 ≡ answer_to limits.now (state_of self) by edit.now) }
-        ensures sound { IfOk result (λ x. IsSound limits.now (state_of x.0)) }
-        ensures agrees { IfOk result (λ x. StandsFor (state_of x.0) (D.told x.0.disk)) }
+        ensures sound { IfOk result (λ x. KeepsLimits limits.now (state_of x.0)) }
+        ensures agrees { IfOk result (λ x. IsOnDisk (state_of x.0) (D.told x.0.disk)) }
         ensures left { IfErr result (LeavesBetween D.told (state_of self)
             (after_edit limits.now (state_of self) by edit.now)) }
         ensures untouched { LeavesUntouched (state_of self)
@@ -135,16 +135,17 @@ impl<D: Disk> Session<D> {
         done: Performed,
         changed: Bumps,
     ) -> Result<(Session<D>, Answer), Stopped<D>>
-        requires agrees { StandsFor (state_of self) (D.told self.disk) }
+        requires agrees { IsOnDisk (state_of self) (D.told self.disk) }
         requires lead { LeadToTree self.tree.files done.changes }
         requires rises { is_sorted path_cmp (pairs_of done.bumps) ≡ true }
+        requires some { All (λ b. 0 < b.number) done.bumps }
         requires small { All (λ b. version_of self.versions.entries b.path + b.number ≤ 2 ^ 31 - 1) done.bumps }
         requires raised { changed ≡ raised self.versions.entries done.bumps }
         requires recorded { self.serial < 2 ^ 63 }
         requires made { self.elements < 2 ^ 63 }
         ensures state { IfOk result (λ x. state_of x.0 ≡ state_by (state_of self) done None) }
         ensures answer { IfOk result (λ x. x.1 ≡ answer_by (state_of self) done None) }
-        ensures agrees { IfOk result (λ x. StandsFor (state_of x.0) (D.told x.0.disk)) }
+        ensures agrees { IfOk result (λ x. IsOnDisk (state_of x.0) (D.told x.0.disk)) }
         ensures left { IfErr result (LeavesWithin D.told (state_of self) done.changes) }
         ensures untouched { done.changes ≡ [] → disk_after result ≡ self.disk }
         ensures lasts { StepLasts D.told self.disk result }

@@ -5,9 +5,9 @@ ghost use Rattle.wse_serve.specs.Machine.{transcript};
 ghost use Rattle.wse_serve.specs.Scene.{disk_at, scene, faults, Lasts};
 ghost use Rattle.wse_serve.specs.Ending.{ending_of, HasCauses};
 ghost use Rattle.wse_serve.specs.Run.{Ran, Runs};
-ghost use Rattle.wse_serve.specs.Edits.{edits, after, StandsFor};
+ghost use Rattle.wse_serve.specs.Edits.{edits, after_line, IsOnDisk};
 ghost use Rattle.wse_serve.specs.Start.{TellsHit, RunsEdits};
-ghost use Rattle.wse_serve.specs.Session.{state_of, IsSound, stopped_disk};
+ghost use Rattle.wse_serve.specs.Session.{state_of, KeepsLimits, stopped_disk};
 ghost use Rattle.wse_serve.specs.Serving.{one_disk, fault_disk, is_disk_fault, fault_of, OneCause, OneLasts, end_of_lines, end_of_one};
 
 use crate::load::load;
@@ -74,8 +74,8 @@ pub fn serve_one<K: Sink, D: Disk>(
     line: &[u8],
     out: &mut K,
 ) -> Result<Session<D>, ServeFault<D>>
-    requires agrees { StandsFor (state_of session) (D.told session.disk) }
-    requires sound { IsSound setting.now.bounds.limits (state_of session) }
+    requires agrees { IsOnDisk (state_of session) (D.told session.disk) }
+    requires sound { KeepsLimits setting.now.bounds.limits (state_of session) }
     ensures run { (added : List Piece) × Adds (K.pieces out.old) (K.pieces out.new) added
         × Ran (edits setting.now.root setting.now.bounds.limits) (is_disk_fault result)
         (disk_at D.moment_of D.told session.disk) (disk_at D.moment_of D.told (one_disk result))
@@ -83,9 +83,9 @@ pub fn serve_one<K: Sink, D: Disk>(
         × OnOk result (bytes_of added
         ≡ transcript (edits setting.now.root setting.now.bounds.limits) n (state_of session) (line.now ∷ [])) }
     ensures next { IfOk result (λ next. state_of next
-        ≡ after setting.now.root setting.now.bounds.limits (state_of session) line.now) }
-    ensures sound { IfOk result (λ next. IsSound setting.now.bounds.limits (state_of next)) }
-    ensures agrees { IfOk result (λ next. StandsFor (state_of next) (D.told next.disk)) }
+        ≡ after_line setting.now.root setting.now.bounds.limits (state_of session) line.now) }
+    ensures sound { IfOk result (λ next. KeepsLimits setting.now.bounds.limits (state_of next)) }
+    ensures agrees { IfOk result (λ next. IsOnDisk (state_of next) (D.told next.disk)) }
     ensures lasts { OneLasts D.told session.disk result }
     ensures cause { OneCause D.faults session.disk (K.faults out.old) (K.faults out.new) result }
 {
@@ -144,8 +144,8 @@ pub fn serve<S: Source, K: Sink, D: Disk>(
     source: &mut S,
     out: &mut K,
 ) -> Served<D>
-    requires sound { IsSound setting.now.bounds.limits (state_of session) }
-    requires agrees { StandsFor (state_of session) (D.told session.disk) }
+    requires sound { KeepsLimits setting.now.bounds.limits (state_of session) }
+    requires agrees { IsOnDisk (state_of session) (D.told session.disk) }
     ensures run { Runs (edits setting.now.root setting.now.bounds.limits) (state_of session)
         setting.now.bounds.max_input
         (scene (S.left source.old) (K.pieces out.old) (disk_at D.moment_of D.told session.disk))

@@ -1,13 +1,27 @@
 // The words of the command line.
-ghost use Rattle.std.specs.Prelude.{◌≡◌, ◌++◌, ◌∷◌, [], nat_eq, IfOk, IfSome, option_map};
+ghost use Rattle.std.specs.Prelude.{◌≡◌, ◌++◌, ◌∷◌, [], drop, nat_eq, IfOk, IfSome, option_map};
 ghost use Rattle.std.specs.List.{starts_with};
 ghost use Rattle.wse_uri.specs.FileUrl.{IsPlainFileUrl};
 ghost use Rattle.wsedit.specs.Words.{without_slashes, is_place, lies_outside, are_places, texts_of, root_of, run_root};
 
 use std::alloc::Global;
+use std::env::Args;
 use url::Url;
 use wse_path::Memory;
 use wse_uri::{RootRefused, root_of};
+
+/// The words behind the first, which is the program's name.
+pub fn behind_first(alloc: Global, words: Args) -> Result<Vec<String>, Memory>
+    ensures { IfOk result (λ behind. behind.items ≡ drop 1 words.rest.items) }
+{
+    let mut words = words;
+    let mut behind = Vec::new(alloc);
+    let _ = words.next();
+    for word in words {
+        behind.push(word)?;
+    }
+    Ok(behind)
+}
 
 /// The words of `run TREE STORE ROOT` behind the first.
 #[derive(Drop)]

@@ -7,7 +7,7 @@ use Rattle.wse_resource.proofs.OutcomeLemmas.{created_room}
 use Rattle.wse_resource.proofs.operation.done_on.Goals as goal
 
 pub put-requires : goal.put-requires
-put-requires c =
+put-requires g c =
     let files = c.args.overlay.now.files in
     let create = c.in-Create in
     subst (λ (p : Path). HasRoom files p) (sym c.in_ok-duplicate-in-Create.ensures)

@@ -10,7 +10,7 @@ use Rattle.wse_resource.proofs.OverLemmas.{source_present, moved_more}
 use Rattle.wse_resource.proofs.over.moved_files.Goals as goal
 
 pub returns-in_err-target-clause-refused : goal.returns-in_err-target-clause-refused
-returns-in_err-target-clause-refused c =
+returns-in_err-target-clause-refused g c =
     let same = c.as_slice-source-items.ensures ∙ c.in_ok-sources.ensures in
     let i = c.loop-source.source-index in
     let d = c.source-item.result in
@@ -21,7 +21,7 @@ returns-in_err-target-clause-refused c =
     ])
 
 pub unwrap-requires : goal.unwrap-requires
-unwrap-requires c =
+unwrap-requires g c =
     let same = c.as_slice-source-items.ensures ∙ c.in_ok-sources.ensures in
     let i = c.loop-source.source-index in
     let d = c.source-item.result in
@@ -30,7 +30,7 @@ unwrap-requires c =
     ∙ source_present c.args.overlay.now.files c.args.from.now i d c.args.overlay.now.is_tree.rises (subst (λ (l : List Path). i < length l) same c.loop-source-test.true) (c.source-item.is ∙ ap (λ (l : List Path). get_or l i d) same))
 
 pub loop-source-preserved : goal.loop-source-preserved
-loop-source-preserved c =
+loop-source-preserved g c =
     let files = c.args.overlay.now.files in
     let from = c.args.from.now in
     let to = c.args.to.now in

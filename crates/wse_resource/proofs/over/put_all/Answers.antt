@@ -4,7 +4,7 @@ use Rattle.wse_resource.proofs.OverLemmas.{put_all-push, next_room}
 use Rattle.wse_resource.proofs.over.put_all.Goals as goal
 
 pub put-requires : goal.put-requires
-put-requires c =
+put-requires g c =
     let inv = c.loop-path.invariant in
     let front = c.loop-path.yielded in
     let split = inv.all ∙ ap (λ (l : Entries). front ++ l) c.in-Some.ensures.steps.0 in
@@ -13,7 +13,7 @@ put-requires c =
     (subst (λ (l : Entries). IsTree (put_all l c.args.overlay.now.files)) split c.requires))
 
 pub loop-path-preserved : goal.loop-path-preserved
-loop-path-preserved c =
+loop-path-preserved g c =
     let inv = c.loop-path.invariant in
     let front = c.loop-path.yielded in
     record {

@@ -4,7 +4,7 @@ use Rattle.wse_resource.proofs.OverLemmas.{removed_more}
 use Rattle.wse_resource.proofs.over.remove_all.Goals as goal
 
 pub loop-path-preserved : goal.loop-path-preserved
-loop-path-preserved c =
+loop-path-preserved g c =
     let p = c.path-item.result in
     record {
       files =

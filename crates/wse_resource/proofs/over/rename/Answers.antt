@@ -5,7 +5,7 @@ use Rattle.wse_resource.proofs.AfterLemmas.{tree_renamed}
 use Rattle.wse_resource.proofs.over.rename.Goals as goal
 
 pub put_all-requires : goal.put_all-requires
-put_all-requires c =
+put_all-requires g c =
     let files = c.args.overlay.now.files in
     let from = c.args.from.now in
     let to = c.args.to.now in

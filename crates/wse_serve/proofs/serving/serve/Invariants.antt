@@ -6,7 +6,7 @@ use Rattle.wse_io.specs.declared.lines.LineFault.TheVariants.{Read}
 use Rattle.wse_disk.specs.Told.{IsSynced}
 use Rattle.wse_serve.specs.Edits.{edits}
 use Rattle.wse_serve.specs.Scene.{disk_at}
-use Rattle.wse_serve.specs.Session.{state_of, IsSound}
+use Rattle.wse_serve.specs.Session.{state_of, KeepsLimits}
 use Rattle.wse_serve.proofs.Reading.{Reads}
 use Rattle.wse_serve.proofs.Answering.{Answers}
 use Rattle.wse_serve.proofs.serving.serve.Given as goal
@@ -20,7 +20,7 @@ invariant-loop-line g l = record {
   sink : g.K.Sink.faults l.out ≡ g.K.Sink.faults l.initial.out;
   lasts : IsSynced (g.D.Disk.told l.initial.session.disk) → IsSynced (g.D.Disk.told l.session.disk);
   disk : g.D.Disk.faults l.session.disk ≡ g.D.Disk.faults l.initial.session.disk;
-  sound : IsSound l.setting.bounds.limits (state_of l.session);
+  sound : KeepsLimits l.setting.bounds.limits (state_of l.session);
   so_far : (taken : List ℕ) × (done : List (List ℕ)) × (added : List Piece)
       × Reads (g.S.Source.left l.initial.source) (g.S.Source.left l.source) l.lines taken done
       × Answers (edits l.setting.root l.setting.bounds.limits) (g.K.Sink.pieces l.initial.out) (g.K.Sink.pieces l.out)

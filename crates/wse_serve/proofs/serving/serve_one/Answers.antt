@@ -4,7 +4,7 @@ use Rattle.wse_io.proofs.StreamLemmas.{adds_none}
 use Rattle.wse_serve.specs.Machine.{transcript}
 use Rattle.wse_serve.specs.Scene.{disk_at}
 use Rattle.wse_serve.specs.Reply.{reply_text}
-use Rattle.wse_serve.specs.Edits.{edits, StandsFor}
+use Rattle.wse_serve.specs.Edits.{edits, IsOnDisk}
 use Rattle.wse_serve.specs.Run.{Ran}
 use Rattle.wse_serve.specs.Session.{state_of}
 use Rattle.wse_serve.specs.Serving.{fault_disk, fault_of, is_disk_fault}
@@ -39,7 +39,7 @@ returns-in-Err-reply_text-clause-run g c =
     let s = state_of c.args.session in
     let at = disk_at g.D.Disk.moment_of g.D.Disk.told in
     let now = c.in-Ok.performed.0 in
-    let agrees = subst (λ u. StandsFor u (g.D.Disk.told now.disk)) c.in-Ok.ensures.state c.in-Ok.ensures.agrees in
+    let agrees = subst (λ u. IsOnDisk u (g.D.Disk.told now.disk)) c.in-Ok.ensures.state c.in-Ok.ensures.agrees in
     let ran = ran_unsaid m false (at c.args.session.disk) (at now.disk) c.args.n s c.args.line.now c.in-Ok.ensures.later (λ keeps. ap g.D.Disk.told (c.in-Ok.ensures.untouched keeps)) agrees in
     ([], adds_none _ _ refl, subst (λ d. Ran m false (at c.args.session.disk) (at d) c.args.n s (c.args.line.now ∷ []) []) (sym c.into_disk.ensures) ran, tt)
 
@@ -55,7 +55,7 @@ returns-in-Ok-emit_all-clause-run g c =
     let out = c.in-Ok-emit_all.ensures.added in
     let all : c.as_slice.result.now ≡ transcript m n s (line ∷ []) = c.as_slice.ensures ∙ c.in-Ok-reply_text.ensures ∙ ap (reply_text n) c.in-Ok.ensures.answer ∙ sym (transcript-one m n s line) in
     let front = subst (λ t. IsPrefix (bytes_of out.0) t) all out.3 in
-    let agrees = subst (λ u. StandsFor u (g.D.Disk.told now.disk)) c.in-Ok.ensures.state c.in-Ok.ensures.agrees in
+    let agrees = subst (λ u. IsOnDisk u (g.D.Disk.told now.disk)) c.in-Ok.ensures.state c.in-Ok.ensures.agrees in
     (out.0, out.1, ran_emitted m false (at c.args.session.disk) (at now.disk) n s line out.0 c.in-Ok.ensures.later (λ keeps. ap g.D.Disk.told (c.in-Ok.ensures.untouched keeps)) out.2 front agrees, out.4 ∙ all)
 
 -- a front of it was
@@ -70,6 +70,6 @@ returns-clause-run g c =
     let out = c.in-Err-emit_all.ensures.added in
     let all : c.as_slice.result.now ≡ transcript m n s (line ∷ []) = c.as_slice.ensures ∙ c.in-Ok-reply_text.ensures ∙ ap (reply_text n) c.in-Ok.ensures.answer ∙ sym (transcript-one m n s line) in
     let front = subst (λ t. IsPrefix (bytes_of out.0) t) all out.3 in
-    let agrees = subst (λ u. StandsFor u (g.D.Disk.told now.disk)) c.in-Ok.ensures.state c.in-Ok.ensures.agrees in
+    let agrees = subst (λ u. IsOnDisk u (g.D.Disk.told now.disk)) c.in-Ok.ensures.state c.in-Ok.ensures.agrees in
     let ran = ran_emitted m false (at c.args.session.disk) (at now.disk) n s line out.0 c.in-Ok.ensures.later (λ keeps. ap g.D.Disk.told (c.in-Ok.ensures.untouched keeps)) out.2 front agrees in
     (out.0, out.1, subst (λ d. Ran m false (at c.args.session.disk) (at d) n s (line ∷ []) out.0) (sym c.into_disk-in-Err-emit_all.ensures) ran, tt)

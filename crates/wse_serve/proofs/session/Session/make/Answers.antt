@@ -1,4 +1,4 @@
-use Rattle.std.proofs.Common.{◌≡◌, ℕ, ◌+◌, ◌-◌, ◌^◌, ◌≤◌, true, List, Option, sym, ap, subst, ◌∙◌}
+use Rattle.std.proofs.Common.{◌≡◌, ℕ, ◌+◌, ◌-◌, ◌^◌, ◌<◌, ◌≤◌, true, List, Option, sym, ap, subst, ◌∙◌}
 use Rattle.std.specs.Prelude.{All}
 use Rattle.std.specs.FinMap.{is_sorted}
 use Rattle.wse_path.specs.Order.{path_cmp}
@@ -13,7 +13,7 @@ use Rattle.wse_serve.specs.Edits.{raised, with_versions}
 use Rattle.wse_serve.specs.Session.{pairs_of}
 use Rattle.wse_disk.specs.Changes.{HasChanged, HasChangedOnly}
 use Rattle.wse_serve.proofs.SessionLemmas.{changed_stands, leads_told, only_stands}
-use Rattle.wse_serve.proofs.BumpLemmas.{bumped_is, pairs_small}
+use Rattle.wse_serve.proofs.BumpLemmas.{bumped_is, pairs_small, pairs_some}
 use Rattle.wse_serve.proofs.session.Session.make.Given.{Over}
 use Rattle.wse_serve.proofs.session.Session.make.Goals as goal
 use Rattle.wse_serve.proofs.session.Session.make.Goals.{After-bump_all}
@@ -35,6 +35,10 @@ set_all-requires-clause-tree g c = subst IsTree (sym (set_are g c ∙ lead_set c
 
 pairs_are : (g : Over) (c : goal.After-into_pairs g) → c.into_pairs.result.items ≡ pairs_of c.args.done.bumps
 pairs_are g c = c.into_pairs.ensures ∙ ap (λ (l : List Numbered). pairs_of l) c.into_vec-2.ensures
+
+pub bump_all-requires-clause-some : goal.bump_all-requires-clause-some
+bump_all-requires-clause-some g c =
+    subst (λ (l : List (Path × ℕ)). All (λ b. 0 < b.1) l) (sym (pairs_are g c)) (pairs_some c.args.done.bumps c.requires.some)
 
 pub bump_all-requires-clause-small : goal.bump_all-requires-clause-small
 bump_all-requires-clause-small g c =

@@ -1,0 +1,4 @@
+pub mod AboveLemmas
+pub mod ShownLemmas
+pub mod MergedLemmas
+pub mod RangeLemmas
