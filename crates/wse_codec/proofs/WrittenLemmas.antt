@@ -12,11 +12,11 @@ item_more f front xs i d lt =
     flat_map_more f front (take i xs) (get_or xs i d) ∙ ap (λ (t : List _). front ++ flat_map f t) (sym (take_more xs i d lt))
 
 -- The loop so far: what is written of the items, which are as they should be.
-abbrev pub IsWritten : {X : Type 0} → (X → List ℕ) → (X → Type 0) → List X → ℕ → List ℕ → List ℕ → Type 0
-IsWritten f P xs i start now = (now ≡ start ++ flat_map f (take i xs)) × All P (take i xs)
+abbrev pub IsSpelledSoFar : {X : Type 0} → (X → List ℕ) → (X → Type 0) → List X → ℕ → List ℕ → List ℕ → Type 0
+IsSpelledSoFar f P xs i start now = (now ≡ start ++ flat_map f (take i xs)) × All P (take i xs)
 
 pub put_step : {X : Type 0} (f : X → List ℕ) (P : X → Type 0) (xs : List X) (i : ℕ) (x : X) (start before after : List ℕ) → i < length xs → x ≡ get_or xs i x
-    → after ≡ before ++ f x → P x → IsWritten f P xs i start before → IsWritten f P xs (i + 1) start after
+    → after ≡ before ++ f x → P x → IsSpelledSoFar f P xs i start before → IsSpelledSoFar f P xs (i + 1) start after
 put_step f P xs i x start before after lt e put h so_far = (
   put ∙ ap (λ (t : List ℕ). t ++ f x) so_far.0 ∙ ap (λ y. (start ++ flat_map f (take i xs)) ++ f y) e ∙ item_more f start xs i x lt,
   All-more P xs i x lt so_far.1 (subst P e h),

@@ -1,5 +1,6 @@
 pub mod Spelling
 pub mod Allowed
+pub mod Comes
 pub mod Pieces
 pub mod Reading
 pub mod Gives

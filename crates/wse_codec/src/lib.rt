@@ -6,7 +6,7 @@ mod effects;
 mod elements;
 mod fields;
 mod labels;
-mod laws;
+pub mod laws;
 mod parts;
 mod paths;
 mod put_effects;
@@ -20,7 +20,6 @@ mod states;
 mod unread;
 mod versions;
 
-pub use laws::one_spelling;
 pub use records::{read_record, write_record};
 pub use refused::RecordRefused;
 pub use snapshot::Snapshot;

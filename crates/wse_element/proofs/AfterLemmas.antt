@@ -171,11 +171,11 @@ last_parts x (y ∷ more) c h =
     record { front = x ∷ rest.front; is = ap (λ rs. x ∷ rs) rest.is }
 
 -- the records that end with the last
-ends_with : (records : List Record) (c : Record) → last_or None records ≡ Some c → record { front : List Record; is : records ≡ front ++ c ∷ [] }
+pub ends_with : (records : List Record) (c : Record) → last_or None records ≡ Some c → record { front : List Record; is : records ≡ front ++ c ∷ [] }
 ends_with [] c h = absurd (none-some c h)
 ends_with (x ∷ more) c h = last_parts x more c h
 
-begins_with : (records : List Record) (c : Record) → slice_get records 0 ≡ Some c → record { back : List Record; is : records ≡ c ∷ back }
+pub begins_with : (records : List Record) (c : Record) → slice_get records 0 ≡ Some c → record { back : List Record; is : records ≡ c ∷ back }
 begins_with [] c h = absurd (none-some c h)
 begins_with (x ∷ more) c h = record { back = more; is = ap (λ r. r ∷ more) (same_Some x c h) }
 
@@ -207,7 +207,7 @@ pub record Closest (o : Option Record) (id : ℕ) : Type 0 where
   pub is : o ≡ Some closest
   pub same : closest.id ≡ id
 
-closest_there : (o : Option Record) (id : ℕ) → is_closest id o ≡ true → Closest o id
+pub closest_there : (o : Option Record) (id : ℕ) → is_closest id o ≡ true → Closest o id
 closest_there None id h = absurd (false≢true h)
 closest_there (Some c) id h = record { closest = c; is = refl; same = eqb-true c.id id h }
 

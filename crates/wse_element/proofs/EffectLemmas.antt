@@ -1,6 +1,5 @@
 -- Each effect that may come leaves a list of records that fit one another.
 use Rattle.std.proofs.Common.{◌≡◌, ℕ, ◌+◌, ◌<◌, true, false, eqb, List, sym, subst, arith}
-use Rattle.std.specs.Bool.{⊤}
 use Rattle.std.specs.List.{AllByRecursion}
 use Rattle.std.specs.Option.{option_map_or}
 use Rattle.std.proofs.lemmas.Bool.{eqb-true}
@@ -16,14 +15,10 @@ use Rattle.wse_element.specs.State.{StacksState}
 use Rattle.wse_element.specs.Effects.{lost_for, after, ids_taken}
 use Rattle.wse_element.specs.Split.{split}
 use Rattle.wse_element.specs.Linked.{IsLinked}
+use Rattle.wse_element.specs.Laws.{PushesParts}
 use Rattle.wse_element.specs.Applicable.{may_split, may_lose, may_come}
 use Rattle.wse_element.proofs.AfterLemmas.{IsLinked-flushed, IsLinked-dropped, IsLinked-invalidated, IsLinked-pushed, IsLinked-back, IsLinked-forward}
 use Rattle.wse_element.proofs.SplitAfterLemmas.{IsLinked-split}
-
--- the new record of an effect has parts, and their paths rise
-abbrev pub PushesParts : Effect → Type 0
-PushesParts (Push r) = AreParts r.parts
-PushesParts _ = ⊤
 
 no_ids : (next_id : ℕ) (records : List Record) → IsLinked next_id records → IsLinked (next_id + 0) records
 no_ids next_id records linked = let same : next_id ≡ next_id + 0 = omega arith in subst (λ n. IsLinked n records) same linked

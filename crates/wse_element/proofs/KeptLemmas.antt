@@ -18,7 +18,7 @@ use Rattle.wse_element.specs.Losses.{lost, part_lost_at, lost_at, future_lost_at
 use Rattle.wse_element.specs.Split.{pieces, split_one, split}
 use Rattle.wse_element.specs.Effects.{marked_one, lost_for, records_after}
 use Rattle.wse_element.proofs.PieceLemmas.{numbered_pieces}
-use Rattle.wse_element.proofs.EffectLemmas.{PushesParts}
+use Rattle.wse_element.specs.Laws.{PushesParts}
 
 -- the record has parts, and their paths rise
 abbrev pub HasParts : Record → Type 0

@@ -12,8 +12,17 @@ pub mod PushLemmas
 pub mod ApartLemmas
 pub mod AfterLemmas
 pub mod PieceLemmas
+pub mod SearchLemmas
 pub mod SplitAfterLemmas
+pub mod NearLemmas
 pub mod EffectLemmas
 pub mod IdLemmas
 pub mod KeptLemmas
 pub mod StepLemmas
+pub mod SetLemmas
+pub mod NumberLemmas
+pub mod CloseLemmas
+pub mod TreeLemmas
+pub mod FoldLemmas
+pub mod FallLemmas
+pub mod WayLemmas

@@ -47,13 +47,13 @@ linked_flushed records q p linked =
 
 -- ---- a drop
 
-any_front : {X : Type 0} (test : X → Bool) (xs ys : List X) → list_any test (xs ++ ys) ≡ false → list_any test xs ≡ false
+pub any_front : {X : Type 0} (test : X → Bool) (xs ys : List X) → list_any test (xs ++ ys) ≡ false → list_any test xs ≡ false
 any_front test [] ys h = refl
 any_front test (x ∷ xs) ys h =
     let parts = or_parts (test x) (list_any test (xs ++ ys)) h in
     or_from (test x) (list_any test xs) parts.0 (any_front test xs ys parts.1)
 
-come_first_front : {X : Type 0} (test : X → Bool) (xs ys : List X) → come_first test (xs ++ ys) ≡ true → come_first test xs ≡ true
+pub come_first_front : {X : Type 0} (test : X → Bool) (xs ys : List X) → come_first test (xs ++ ys) ≡ true → come_first test xs ≡ true
 come_first_front test [] ys h = refl
 come_first_front test (x ∷ xs) ys h =
     elim (test x) as (λ b. cond b (come_first test (xs ++ ys)) (not (list_any test (xs ++ ys))) ≡ true → cond b (come_first test xs) (not (list_any test xs)) ≡ true) [
@@ -61,7 +61,7 @@ come_first_front test (x ∷ xs) ys h =
       | false ↦ λ k. ap not (any_front test xs ys (not-true (list_any test (xs ++ ys)) k))
     ] h
 
-neighbours_front : (p : Path) (xs ys : List Record) → neighbours_meet p (xs ++ ys) ≡ true → neighbours_meet p xs ≡ true
+pub neighbours_front : (p : Path) (xs ys : List Record) → neighbours_meet p (xs ++ ys) ≡ true → neighbours_meet p xs ≡ true
 neighbours_front p [] ys h = refl
 neighbours_front p (x ∷ []) ys h = refl
 neighbours_front p (x ∷ y ∷ xs) ys h =

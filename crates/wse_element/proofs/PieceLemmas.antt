@@ -1,6 +1,6 @@
 -- Records that fit one another fit after a split: each piece stands where the whole stood.
-use Rattle.std.proofs.Common.{◌≡◌, ℕ, ◌+◌, Bool, true, false, ◌&&◌, not, cond, List, [], ◌∷◌, ◌++◌, map, Option, Some, None, refl, sym, ap, subst, ◌∙◌}
-use Rattle.std.specs.Prelude.{filter, find, is_some}
+use Rattle.std.proofs.Common.{◌≡◌, ℕ, ◌+◌, Bool, true, false, ◌&&◌, not, cond, List, [], ◌∷◌, ◌++◌, map, length, Option, Some, None, refl, sym, ap, subst, ◌∙◌}
+use Rattle.std.specs.Prelude.{filter, find, is_some, nat_le}
 use Rattle.std.specs.List.{list_any, enumerate_from, AllZip, AllByRecursion}
 use Rattle.std.specs.FinMap.{is_sorted}
 use Rattle.std.specs.FinMap.Entries.{below_all}
@@ -28,7 +28,7 @@ abbrev live_of : List RecordPart → List RecordPart
 live_of parts = filter (λ part. is_live part.state) parts
 
 -- no part of a list behind the path is at it
-none_behind_path : (p : Path) (parts : List RecordPart) → below_all path_cmp p (by_path parts) ≡ true → list_any (is_live_part_at p) parts ≡ false
+pub none_behind_path : (p : Path) (parts : List RecordPart) → below_all path_cmp p (by_path parts) ≡ true → list_any (is_live_part_at p) parts ≡ false
 none_behind_path p [] h = refl
 none_behind_path p (part ∷ more) h =
     let both = and_parts (is_lt (path_cmp p part.path)) (below_all path_cmp p (by_path more)) h in
@@ -74,17 +74,22 @@ one_piece p r (part ∷ more) first h =
 
 -- ---- the whole list
 
--- the second stands in the place of the first: it says the same of the path and comes from the same command, and where the
--- first isn't the one that is split it is the first
+-- the second stands in the place of the first: it says the same of the path and comes from the same command; where the first
+-- is the one that is split it has one part, and else it is the first
 pub record StandsIn (p : Path) (id : ℕ) (r s : Record) : Type 0 where
   pub part : live_part p s ≡ live_part p r
   pub done : s.done ≡ r.done
   pub origin : s.origin ≡ r.origin
   pub itself : has_id id r ≡ false → s ≡ r
+  pub alone : has_id id r ≡ true → nat_le 2 (length s.parts) ≡ false
 
-all_stay : (p : Path) (id : ℕ) (records : List Record) → AllZip (StandsIn p id) records records
-all_stay p id [] = tt
-all_stay p id (r ∷ records) = (record { part = refl; done = refl; origin = refl; itself = λ _. refl }, all_stay p id records)
+-- a record that isn't split stays
+one_stays : (p : Path) (id : ℕ) (r : Record) → has_id id r ≡ false → AllZip (StandsIn p id) (live_at (r ∷ []) p) (live_at (r ∷ []) p)
+one_stays p id r other =
+    elim (is_live_at p r) as (λ b. AllZip (StandsIn p id) (cond b (r ∷ []) []) (cond b (r ∷ []) [])) [
+      | true ↦ (record { part = refl; done = refl; origin = refl; itself = λ _. refl; alone = λ e. absurd (both_ways (has_id id r) other e) }, tt)
+      | false ↦ tt
+    ]
 
 zip_append : {X : Type 0} (R : X → X → Type 0) (xs ys us vs : List X) → AllZip R xs ys → AllZip R us vs → AllZip R (xs ++ us) (ys ++ vs)
 zip_append R [] [] us vs h k = k
@@ -116,7 +121,7 @@ found_alone p r id part h = ap (λ b. cond b (Some part) None) (find_passes (is_
 
 piece_alone : (p : Path) (id : ℕ) (r : Record) (new : ℕ) (o : Option RecordPart) → has_id id r ≡ true → live_part p r ≡ o → AllZip (StandsIn p id) (cond (is_some o) (r ∷ []) []) (piece_of r new o)
 piece_alone p id r new None e h = tt
-piece_alone p id r new (Some part) e h = (record { part = found_alone p r new part h; done = refl; origin = refl; itself = λ f. absurd (both_ways (has_id id r) f e) }, tt)
+piece_alone p id r new (Some part) e h = (record { part = found_alone p r new part h; done = refl; origin = refl; itself = λ f. absurd (both_ways (has_id id r) f e); alone = λ _. refl }, tt)
 
 -- each record, or its pieces
 split_in_place_one : (p : Path) (id first : ℕ) (r : Record) → AreParts r.parts → AllZip (StandsIn p id) (live_at (r ∷ []) p) (live_at (split_one id first r) p)
@@ -125,7 +130,7 @@ split_in_place_one p id first r are =
       | true ↦ λ e.
           let one = one_piece p r r.parts first are.rise in
           subst (λ rs. AllZip (StandsIn p id) (live_at (r ∷ []) p) rs) (sym one.is) (piece_alone p id r one.id (live_part p r) e refl)
-      | false ↦ λ _. all_stay p id (live_at (r ∷ []) p)
+      | false ↦ λ e. one_stays p id r e
     ] refl
 
 -- a split keeps place and order

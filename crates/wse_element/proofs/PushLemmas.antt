@@ -25,7 +25,7 @@ use Rattle.wse_element.proofs.MoveLemmas.{all_push}
 use Rattle.wse_element.proofs.LinkedLemmas.{come_first_all}
 
 -- equal contents, from the other side
-same_back : (a b : Content) → is_same a b ≡ true → is_same b a ≡ true
+pub same_back : (a b : Content) → is_same a b ≡ true → is_same b a ≡ true
 same_back a b h = subst (λ c. is_same c a ≡ true) (same_content a b h) (is_same_itself a)
 
 nothing_first : (records : List Record) → is_some (slice_get records 0) ≡ false → records ≡ []

@@ -115,7 +115,7 @@ pieces_live r (part ∷ parts) first h =
     and_from (has_live (piece r first part)) (list_all has_live (numbered_pieces r parts (first + 1))) (ap (λ b. b || false) both.0) (pieces_live r parts (first + 1) both.1)
 
 -- no path is under itself
-not_under_itself : (p : Path) → is_under p p ≡ false
+pub not_under_itself : (p : Path) → is_under p p ≡ false
 not_under_itself p = ap (λ b. b && pointwise bytes_eq p (take (length p) p)) (le-ltb (length p) (length p) (omega arith))
 
 apart_alone : (p : Path) → are_apart (p ∷ []) ≡ true

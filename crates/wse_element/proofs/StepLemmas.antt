@@ -1,7 +1,5 @@
--- Lists that are changed in place, one item after another, and tests over lists of paths.
-use Rattle.std.proofs.Common.{◌≡◌, ℕ, zero, suc, ◌+◌, ◌<◌, Bool, true, false, ◌&&◌, ◌||◌, not, cond, List, [], ◌∷◌, ◌++◌, map, length, take, drop, get_or, set, refl, sym, ap, ◌∙◌, arith}
-use Rattle.std.specs.Prelude.{filter}
-use Rattle.std.specs.List.{list_any, list_all}
+-- Lists that are changed in place, one item after another.
+use Rattle.std.proofs.Common.{◌≡◌, ℕ, zero, suc, ◌+◌, ◌<◌, List, [], ◌∷◌, ◌++◌, map, length, take, drop, get_or, set, refl, sym, ap, ◌∙◌, arith}
 use Rattle.std.proofs.lemmas.List.{length-map}
 
 module _ {X : Type 0} (f : X → X) where
@@ -18,27 +16,6 @@ module _ {X : Type 0} (f : X → X) where
       ∙ ap (λ ys. set ys i (f (get_or ys i y))) e
       ∙ changed xs i y h
       ∙ ap (λ n. map f (take n xs) ++ drop n xs) (sym next)
-
-module _ {X Y : Type 0} (path : X → Y) (first second : X → Bool) where
-  -- a test of what is left of two filters
-  pub any_of_both : (test : Y → Bool) (xs : List X) → list_any test (map path (filter second (filter first xs))) ≡ list_any (λ x. first x && second x && test (path x)) xs
-  any_of_both test [] = refl
-  any_of_both test (x ∷ xs) =
-      let rest = any_of_both test xs in
-      elim (first x) as (λ b. list_any test (map path (filter second (cond b (x ∷ filter first xs) (filter first xs)))) ≡ (b && second x && test (path x)) || list_any (λ (y : X). first y && second y && test (path y)) xs) [
-        | true ↦ elim (second x) as (λ b. list_any test (map path (cond b (x ∷ filter second (filter first xs)) (filter second (filter first xs)))) ≡ (b && test (path x)) || list_any (λ (y : X). first y && second y && test (path y)) xs) [ true ↦ ap (λ b. test (path x) || b) rest | false ↦ rest ]
-        | false ↦ rest
-      ]
-
-  -- a test that none of what is left passes
-  pub all_of_both : (test : Y → Bool) (xs : List X) → list_all (λ y. not (test y)) (map path (filter second (filter first xs))) ≡ list_all (λ x. not (first x && second x && test (path x))) xs
-  all_of_both test [] = refl
-  all_of_both test (x ∷ xs) =
-      let rest = all_of_both test xs in
-      elim (first x) as (λ b. list_all (λ y. not (test y)) (map path (filter second (cond b (x ∷ filter first xs) (filter first xs)))) ≡ (not (b && second x && test (path x)) && list_all (λ (y : X). not (first y && second y && test (path y))) xs)) [
-        | true ↦ elim (second x) as (λ b. list_all (λ y. not (test y)) (map path (cond b (x ∷ filter second (filter first xs)) (filter second (filter first xs)))) ≡ (not (b && test (path x)) && list_all (λ (y : X). not (first y && second y && test (path y))) xs)) [ true ↦ ap (λ b. not (test (path x)) && b) rest | false ↦ rest ]
-        | false ↦ rest
-      ]
 
 module _ {X : Type 0} where
   whole : (new rest : List X) → take (length new) (new ++ rest) ≡ new

@@ -9,5 +9,8 @@ pub mod Effects
 pub mod Weight
 pub mod Numbers
 pub mod Apart
+pub mod Near
 pub mod Linked
 pub mod Applicable
+pub mod Laws
+pub mod Way

@@ -1,8 +1,10 @@
 -- When records fit one another, and the tree them. This project's own rule.
 use Rattle.std.specs.Prelude.{◌≡◌, ℕ, Bool, true, not, ◌&&◌, ◌==◌, nat_lt, List, [], ◌∷◌, if◌then◌else◌}
 use Rattle.std.specs.List.{list_any, list_all}
+use Rattle.std.specs.FinMap.{is_sorted}
 use Rattle.std.specs.Option.{option_map_or}
 use Rattle.wse_path.specs.Path.{Path}
+use Rattle.wse_path.specs.Order.{path_cmp}
 use Rattle.wse_path.specs.Tree.{Entries, content, IsTree}
 use Rattle.wse_path.specs.Changes.{is_same}
 use Rattle.wse_element.specs.Content.{Content}
@@ -10,7 +12,7 @@ use Rattle.wse_element.specs.Record.{Record}
 use Rattle.wse_element.specs.Live.{is_valid_at, old_at, new_at, has_live}
 use Rattle.wse_element.specs.Stacks.{live_at, closest_past, closest_future, ids}
 use Rattle.wse_element.specs.Apart.{is_apart}
-use Rattle.wse_element.specs.Numbers.{is_bounded, are_versions_bounded, is_known_bounded}
+use Rattle.wse_element.specs.Numbers.{is_bounded, are_versions_bounded, is_known_bounded, are_some}
 use Rattle.wse_element.specs.State.{Kept, State, stacks_of, kept_of}
 
 -- No number stands in the list twice.
@@ -67,9 +69,11 @@ pub record IsTreeLinkedAt (files : Entries) (records : List Record) (p : Path) :
   pub past : option_map_or (is_left_by p (content files p)) (closest_past records p) true ≡ true
   pub future : option_map_or (is_found_by p (content files p)) (closest_future records p) true ≡ true
 
--- What a journal keeps is linked, and its numbers within their bounds.
+-- What a journal keeps is linked, its versions stand in path order and none is 0, and its numbers are within their bounds.
 pub record IsKeptLinked (kept : Kept) : Type 0 where
   pub records : IsLinked kept.next_id kept.records
+  pub rise : is_sorted path_cmp kept.versions ≡ true
+  pub some : are_some kept.versions ≡ true
   pub bounded : is_bounded (stacks_of kept) ≡ true
   pub versions : are_versions_bounded kept.serial kept.versions ≡ true
   pub known : is_known_bounded kept.versions ≡ true

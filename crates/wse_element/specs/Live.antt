@@ -1,5 +1,5 @@
 -- Where a record is live, and what it says there. This project's own rule.
-use Rattle.std.specs.Prelude.{Bool, true, false, ◌&&◌, List, Option, is_some, filter, find, option_and_then}
+use Rattle.std.specs.Prelude.{Bool, true, false, ◌&&◌, List, Option, Some, None, is_some, filter, find, option_and_then, if◌then◌else◌}
 use Rattle.std.specs.List.{list_any}
 use Rattle.std.specs.Option.{option_map_or}
 use Rattle.std.specs.Ordering.{eq_by_cmp}
@@ -22,6 +22,10 @@ is_live_part_at p part = eq_by_cmp path_cmp p part.path && is_live part.state
 -- The record's live part at the path.
 abbrev pub live_part : Path → Record → Option RecordPart
 live_part p r = find (is_live_part_at p) r.parts
+
+-- The part, where it is live.
+abbrev pub where_live : RecordPart → Option RecordPart
+where_live part = if is_live part.state then Some part else None
 
 -- The record is live at the path.
 abbrev pub is_live_at : Path → Record → Bool

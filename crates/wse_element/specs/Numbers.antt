@@ -1,6 +1,6 @@
 -- Bounds of the numbers of a history, which keep sums within their types. No store that this program made passes one.
 -- This project's own rule.
-use Rattle.std.specs.Prelude.{ℕ, ◌+◌, ◌-◌, ◌*◌, ◌^◌, Bool, ◌&&◌, nat_le}
+use Rattle.std.specs.Prelude.{ℕ, ◌+◌, ◌-◌, ◌*◌, ◌^◌, Bool, ◌&&◌, nat_le, nat_lt}
 use Rattle.std.specs.List.{list_all}
 use Rattle.wse_path.specs.Versions.{Numbers, known}
 use Rattle.wse_element.specs.State.{StacksState}
@@ -25,3 +25,7 @@ are_versions_bounded serial versions = list_all (λ e. nat_le e.1 (2 * serial + 
 
 abbrev pub is_known_bounded : Numbers → Bool
 is_known_bounded versions = nat_le (known versions) (2 ^ 29)
+
+-- No path has the version 0: one that has none has no entry.
+abbrev pub are_some : Numbers → Bool
+are_some versions = list_all (λ e. nat_lt 0 e.1) versions

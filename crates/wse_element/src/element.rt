@@ -13,8 +13,10 @@ ghost use Rattle.wse_element.specs.Losses.{lost_at, part_lost_at, invalid_at, pa
 ghost use Rattle.wse_element.specs.Split.{piece, pieces};
 ghost use Rattle.wse_element.specs.Weight.{record_weight};
 
+use crate::apart::{had_apart, left_apart};
 use crate::part::{Part, Parts};
 use crate::rise::rise;
+use crate::search::live_at;
 use crate::state::PartState;
 use std::alloc::Global;
 use std::marker::Model;
@@ -71,40 +73,6 @@ fn invalidate_each(parts: &mut [Part], path: &RelPath)
     for part in parts.iter_mut() {
         part.invalidate_at(path);
     }
-}
-
-// Whether the path is under one at which a live part had a file.
-fn is_under_had(parts: &[Part], path: &RelPath) -> bool
-    ensures { result ≡ list_any (λ part. is_live part.state && is_some (old_content part.body) && is_under path.now part.path) parts.now }
-{
-    parts.iter().any(|part| part.is_live() && part.had_file() && path.is_under(part.path()))
-}
-
-// Whether the path is under one at which a live part left a file.
-fn is_under_left(parts: &[Part], path: &RelPath) -> bool
-    ensures { result ≡ list_any (λ part. is_live part.state && is_some (new_content part.body) && is_under path.now part.path) parts.now }
-{
-    parts.iter().any(|part| part.is_live() && part.left_file() && path.is_under(part.path()))
-}
-
-// Whether none of the files that live parts had is under another.
-fn had_apart(parts: &[Part]) -> bool
-    ensures { result ≡ list_all (λ part. not (is_live part.state && is_some (old_content part.body)
-        && list_any (λ above. is_live above.state && is_some (old_content above.body) && is_under part.path above.path) parts.now)) parts.now }
-{
-    parts.iter().all(|part| !(part.is_live()
-        && part.had_file()
-        && is_under_had(parts, part.path())))
-}
-
-// Whether none of the files that live parts left is under another.
-fn left_apart(parts: &[Part]) -> bool
-    ensures { result ≡ list_all (λ part. not (is_live part.state && is_some (new_content part.body)
-        && list_any (λ above. is_live above.state && is_some (new_content above.body) && is_under part.path above.path) parts.now)) parts.now }
-{
-    parts.iter().all(|part| !(part.is_live()
-        && part.left_file()
-        && is_under_left(parts, part.path())))
 }
 
 impl Element {
@@ -191,7 +159,7 @@ impl Element {
     pub fn live_part(&self, path: &RelPath) -> Option<&Part>
         ensures { option_copied result ≡ live_part path.now self.now }
     {
-        self.parts.iter().find(|part| part.is_live_at(path))
+        live_at(&self.parts, path)
     }
 
     /// Whether it is live at the path.

@@ -8,16 +8,15 @@ use Rattle.std.proofs.lemmas.List.{take_more}
 use Rattle.std.proofs.lemmas.Option.{none-some}
 use Rattle.wse_path.proofs.EntryLemmas.{and_parts}
 use Rattle.wse_element.specs.declared.effect.Effect.{Effect}
-use Rattle.wse_element.specs.declared.effect.Effect.TheVariants.{Push, MoveBack, MoveForward, Split, Drop, Invalidate, Bump, Set}
 use Rattle.wse_element.specs.State.{StacksState}
 use Rattle.wse_element.specs.Effects.{ids_taken, after, after_each, begun}
 use Rattle.wse_element.specs.Linked.{IsLinked}
 use Rattle.wse_element.specs.Numbers.{is_bounded, is_serial_bounded, is_next_id_bounded, is_weight_bounded}
 use Rattle.wse_element.specs.Applicable.{sets_tree, may_come, is_applicable, is_applicable_behind, is_applicable_at, first_refused}
-use Rattle.wse_element.proofs.EffectLemmas.{PushesParts, linked_after}
+use Rattle.wse_element.proofs.EffectLemmas.{linked_after}
 use Rattle.wse_element.proofs.KeptLemmas.{parts_after}
 use Rattle.wse_stacks.specs.Draft.{DraftState, next_draft, next_drafts, is_next, first_stop, begun_draft}
-use Rattle.wse_stacks.specs.Image.{HasParts}
+use Rattle.wse_element.specs.Laws.{PushesParts}
 use Rattle.wse_stacks.specs.Stacks.{HaveParts}
 
 -- ---- the place of the first that stops
@@ -71,7 +70,7 @@ one_more : (d : DraftState) (before : List Effect) (e : Effect) → next_drafts 
 one_more d [] e = refl
 one_more d (x ∷ before) e = one_more (next_draft d x) before e
 
-all_one_more : (before : List Effect) (e : Effect) → AllByRecursion HasParts before → HasParts e → AllByRecursion HasParts (before ++ e ∷ [])
+all_one_more : (before : List Effect) (e : Effect) → AllByRecursion PushesParts before → PushesParts e → AllByRecursion PushesParts (before ++ e ∷ [])
 all_one_more [] e all h = (h, tt)
 all_one_more (x ∷ before) e all h = (all.0, all_one_more before e all.1 h)
 
@@ -138,30 +137,19 @@ bounded_next d effect h = (and_parts (may_come d.state effect) (is_bounded (afte
 
 -- ---- histories
 
--- the new record of an effect has parts
-to_pushed : (effect : Effect) → HasParts effect → PushesParts effect
-to_pushed (Push r) h = h
-to_pushed (MoveBack id) h = tt
-to_pushed (MoveForward id) h = tt
-to_pushed (Split id first) h = tt
-to_pushed (Drop path reason) h = tt
-to_pushed (Invalidate path) h = tt
-to_pushed (Bump path by) h = tt
-to_pushed (Set path content) h = tt
-
 pub record IsKept (s : StacksState) : Type 0 where
   pub parts : HaveParts s.records
   pub linked : IsLinked s.next_id s.records
   pub positive : 0 < s.next_id
 
-pub kept_next : (d : DraftState) (effect : Effect) → HasParts effect → is_next d effect ≡ true → IsKept d.state → IsKept (after d.state effect)
+pub kept_next : (d : DraftState) (effect : Effect) → PushesParts effect → is_next d effect ≡ true → IsKept d.state → IsKept (after d.state effect)
 kept_next d effect parts h kept = record {
-  parts = parts_after d.state.records effect kept.parts (to_pushed effect parts);
-  linked = linked_after d.state effect kept.positive kept.parts (to_pushed effect parts) (may_come_next d effect h) kept.linked;
+  parts = parts_after d.state.records effect kept.parts parts;
+  linked = linked_after d.state effect kept.positive kept.parts parts (may_come_next d effect h) kept.linked;
   positive = let p : 0 < d.state.next_id = kept.positive in (let q : 0 < d.state.next_id + ids_taken d.state.records effect = omega arith in q);
 }
 
-pub kept_each : (d : DraftState) (effects : List Effect) → AllByRecursion HasParts effects → first_stop d effects ≡ None → IsKept d.state → IsKept (next_drafts d effects).state
+pub kept_each : (d : DraftState) (effects : List Effect) → AllByRecursion PushesParts effects → first_stop d effects ≡ None → IsKept d.state → IsKept (next_drafts d effects).state
 kept_each d [] parts h kept = kept
 kept_each d (effect ∷ more) parts h kept =
     let goes = goes_on d effect more h in
@@ -214,6 +202,6 @@ stop_here d effects i e o h k is stops =
 pub stop_none : (d : DraftState) (effects : List Effect) (i : ℕ) (o : Option ℕ) → length effects ≤ i → o ≡ option_map (λ n. i + n) (first_stop d (drop i effects)) → None ≡ o
 stop_none d effects i o h is = sym (is ∙ ap (λ es. option_map (λ n. i + n) (first_stop d es)) (drop_all effects i h))
 
-pub parts_more : (effects : List Effect) (i : ℕ) (e : Effect) → i < length effects → e ≡ get_or effects i e → AllByRecursion HasParts (take i effects) → HasParts e → AllByRecursion HasParts (take (i + 1) effects)
+pub parts_more : (effects : List Effect) (i : ℕ) (e : Effect) → i < length effects → e ≡ get_or effects i e → AllByRecursion PushesParts (take i effects) → PushesParts e → AllByRecursion PushesParts (take (i + 1) effects)
 parts_more effects i e h k all parts =
-    subst (λ (es : List Effect). AllByRecursion HasParts es) (sym (take_more effects i e h ∙ ap (λ x. take i effects ++ x ∷ []) (sym k))) (all_one_more (take i effects) e all parts)
+    subst (λ (es : List Effect). AllByRecursion PushesParts es) (sym (take_more effects i e h ∙ ap (λ x. take i effects ++ x ∷ []) (sym k))) (all_one_more (take i effects) e all parts)

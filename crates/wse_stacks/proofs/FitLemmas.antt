@@ -1,10 +1,11 @@
 -- A record fits behind a linked list exactly where the list with it is linked.
-use Rattle.std.proofs.Common.{◌≡◌, ℕ, suc, ◌+◌, ◌<◌, length, take, arith, Bool, true, false, ◌&&◌, ◌||◌, not, cond, eqb, List, [], ◌∷◌, ◌++◌, Option, Some, None, refl, sym, ap, subst, ◌∙◌}
+use Rattle.std.proofs.Common.{◌≡◌, ℕ, suc, ◌+◌, ◌<◌, length, take, drop, arith, ltb, Bool, true, false, ◌&&◌, ◌||◌, not, cond, eqb, List, [], ◌∷◌, ◌++◌, Option, Some, None, refl, sym, ap, subst, ◌∙◌}
 use Rattle.std.specs.Prelude.{slice_get}
 use Rattle.std.specs.Option.{option_map_or}
-use Rattle.std.proofs.lemmas.List.{take_all, take_more}
+use Rattle.std.proofs.lemmas.List.{take_all, take_more, take-append-drop, map-append}
+use Rattle.std.proofs.lemmas.List.Elements.{filter-append}
 use Rattle.std.specs.List.{list_any, list_all, last_or}
-use Rattle.std.proofs.lemmas.Bool.{false≢true, and_from, or_parts, not-true, eqb-true}
+use Rattle.std.proofs.lemmas.Bool.{false≢true, and_from, or_parts, not-true, eqb-true, ltb-true, ltb-false, both_ways}
 use Rattle.std.proofs.lemmas.Option.{same_Some, get_or_from_slice_get}
 use Rattle.wse_path.specs.Path.{Path}
 use Rattle.wse_path.proofs.EntryLemmas.{and_parts}
@@ -17,6 +18,8 @@ use Rattle.wse_element.proofs.ListLemmas.{list_all-append}
 use Rattle.wse_element.proofs.PastLemmas.{live_at_push}
 use Rattle.wse_element.proofs.PushLemmas.{found_in, found_passes}
 use Rattle.wse_element.proofs.MoveLemmas.{eqb_back}
+use Rattle.wse_element.proofs.FoldLemmas.{take_front, get_behind}
+use Rattle.wse_element.proofs.LinkedLemmas.{any_front, come_first_front, neighbours_front}
 use Rattle.wse_element.specs.State.{StacksState}
 use Rattle.wse_element.specs.Numbers.{is_bounded}
 use Rattle.wse_stacks.specs.Fits.{last_live, fits_after, fits_at, fits, IsFirstUnfit}
@@ -215,14 +218,6 @@ linked_none next_id = record { different = refl; numbered = refl; live = refl; a
 
 -- ---- the first that doesn't fit
 
-take_front : {X : Type 0} (xs ys : List X) → take (length xs) (xs ++ ys) ≡ xs
-take_front [] ys = refl
-take_front (x ∷ xs) ys = ap (λ zs. x ∷ zs) (take_front xs ys)
-
-get_behind : {X : Type 0} (xs : List X) (y : X) (ys : List X) → slice_get (xs ++ y ∷ ys) (length xs) ≡ Some y
-get_behind [] y ys = refl
-get_behind (x ∷ xs) y ys = get_behind xs y ys
-
 length_behind : {X : Type 0} (xs : List X) (y : X) (ys : List X) → length xs < length (xs ++ y ∷ ys)
 length_behind [] y ys = (let h : 0 < suc (length ys) = omega arith in h)
 length_behind (x ∷ xs) y ys = (let rest = length_behind xs y ys in let h : suc (length xs) < suc (length (xs ++ y ∷ ys)) = omega arith in h)
@@ -260,3 +255,43 @@ unbounded h n e linked not_bounded = record {
   here = λ l. absurd (omega arith);
   numbers = λ _. not_bounded;
 }
+
+-- ---- the front of a linked list
+
+all_front : {X : Type 0} (t : X → Bool) (xs ys : List X) → list_all t (xs ++ ys) ≡ true → list_all t xs ≡ true
+all_front t [] ys h = refl
+all_front t (x ∷ xs) ys h = let both = and_parts (t x) (list_all t (xs ++ ys)) h in and_from (t x) (list_all t xs) both.0 (all_front t xs ys both.1)
+
+different_front : (ms ns : List ℕ) → are_different (ms ++ ns) ≡ true → are_different ms ≡ true
+different_front [] ns h = refl
+different_front (m ∷ ms) ns h =
+    let both = and_parts (not (list_any (λ k. eqb k m) (ms ++ ns))) (are_different (ms ++ ns)) h in
+    and_from (not (list_any (λ k. eqb k m) ms)) (are_different ms)
+    (ap not (any_front (λ k. eqb k m) ms ns (not-true (list_any (λ k. eqb k m) (ms ++ ns)) both.0))) (different_front ms ns both.1)
+
+front_at : (xs ys : List Record) (p : Path) → IsLinkedAt (xs ++ ys) p → IsLinkedAt xs p
+front_at xs ys p linked =
+    let parts = filter-append (is_live_at p) xs ys in
+    record {
+      done_first = come_first_front (λ r. r.done) (live_at xs p) (live_at ys p) (sym (ap done_first parts) ∙ linked.done_first);
+      invalid_first = come_first_front (λ r. not (is_valid_at p r)) (live_at xs p) (live_at ys p) (sym (ap (invalid_first p) parts) ∙ linked.invalid_first);
+      meet = neighbours_front p (live_at xs p) (live_at ys p) (sym (ap (neighbours_meet p) parts) ∙ linked.meet);
+    }
+
+linked_front : (next_id : ℕ) (xs ys : List Record) → IsLinked next_id (xs ++ ys) → IsLinked next_id xs
+linked_front next_id xs ys linked = record {
+  different = different_front (ids xs) (ids ys) (sym (ap are_different (map-append (λ (r : Record). r.id) xs ys)) ∙ linked.different);
+  numbered = all_front (is_numbered next_id) xs ys linked.numbered;
+  live = all_front has_live xs ys linked.live;
+  apart = all_front is_apart xs ys linked.apart;
+  each = λ p. front_at xs ys p (linked.each p);
+}
+
+-- where a place is told, the whole isn't linked and within its bounds
+pub whole_unlinked : (h : StacksState) (at : ℕ) → IsFirstUnlinked h at → IsLinked h.next_id h.records → is_bounded h ≡ true → ⊥
+whole_unlinked h at first linked bounded =
+    elim (ltb at (length h.records)) as (λ b. ltb at (length h.records) ≡ b → ⊥) [
+      | true ↦ λ l. first.here (ltb-true at (length h.records) l)
+          (linked_front h.next_id (take (at + 1) h.records) (drop (at + 1) h.records) (subst (λ (rs : List Record). IsLinked h.next_id rs) (sym (take-append-drop (at + 1) h.records)) linked))
+      | false ↦ λ l. both_ways (is_bounded h) (first.numbers (let high = ltb-false at (length h.records) l in let low = first.within in omega (arith, high, low))) bounded
+    ] refl

@@ -1,7 +1,6 @@
 -- What an effect leaves, record by record.
 use Rattle.std.proofs.Common.{◌≡◌, true, false, cond, List, [], ◌∷◌, ◌++◌, map, refl, sym, ap, ◌∙◌}
 use Rattle.std.specs.Prelude.{filter, flat_map}
-use Rattle.std.specs.Bool.{⊤}
 use Rattle.std.specs.List.{list_any}
 use Rattle.std.proofs.lemmas.Bool.{or_parts}
 use Rattle.wse_path.specs.Path.{Path}
@@ -14,7 +13,8 @@ use Rattle.wse_element.specs.Live.{is_live_part_at, is_live_at, has_live}
 use Rattle.wse_element.specs.Losses.{lost, lost_at, future_lost_at, invalid_at}
 use Rattle.wse_element.specs.Effects.{marked_one, lost_for, records_after}
 use Rattle.wse_element.proofs.ListLemmas.{find-any}
-use Rattle.wse_stacks.specs.Image.{if_live, image_lost, images, HasParts}
+use Rattle.wse_stacks.specs.Image.{if_live, image_lost, images}
+use Rattle.wse_element.specs.Laws.{PushesParts, BringsNone}
 
 -- ---- what stays
 
@@ -55,12 +55,7 @@ flat_lost path Live records = flat_same records
 flat_lost path Closed records = flat_live (lost_at path Closed) records
 flat_lost path Incompatible records = flat_live (future_lost_at path) records
 
--- the effect brings no new record
-abbrev pub IsNoPush : Effect → Type 0
-IsNoPush (Push r) = ⊥
-IsNoPush _ = ⊤
-
-pub no_push : (effect : Effect) → ((r : Record) → effect ≡ Push r → ⊥) → IsNoPush effect
+pub no_push : (effect : Effect) → ((r : Record) → effect ≡ Push r → ⊥) → BringsNone effect
 no_push (Push r) h = h r refl
 no_push (MoveBack id) h = tt
 no_push (MoveForward id) h = tt
@@ -70,7 +65,7 @@ no_push (Invalidate path) h = tt
 no_push (Bump path by) h = tt
 no_push (Set path content) h = tt
 
-pub no_push_parts : (effect : Effect) → ((r : Record) → effect ≡ Push r → ⊥) → HasParts effect
+pub no_push_parts : (effect : Effect) → ((r : Record) → effect ≡ Push r → ⊥) → PushesParts effect
 no_push_parts (Push r) h = absurd (h r refl)
 no_push_parts (MoveBack id) h = tt
 no_push_parts (MoveForward id) h = tt
@@ -80,7 +75,7 @@ no_push_parts (Invalidate path) h = tt
 no_push_parts (Bump path by) h = tt
 no_push_parts (Set path content) h = tt
 
-pub images_are : (records : List Record) (effect : Effect) → IsNoPush effect → images effect records ≡ records_after records effect
+pub images_are : (records : List Record) (effect : Effect) → BringsNone effect → images effect records ≡ records_after records effect
 images_are records (Push r) h = absurd h
 images_are records (MoveBack id) h = flat_one (marked_one id false) records
 images_are records (MoveForward id) h = flat_one (marked_one id true) records

@@ -2,6 +2,7 @@ pub mod SearchLemmas
 pub mod ImageLemmas
 pub mod FitLemmas
 pub mod DraftLemmas
+pub mod WeighLemmas
 pub mod LookLemmas
 pub mod TurnLemmas
 pub mod PathLemmas

@@ -6,7 +6,7 @@ use Rattle.std.specs.Option.{option_map_or}
 use Rattle.std.specs.Ordering.{eq_by_cmp}
 use Rattle.std.proofs.lemmas.Bool.{or_parts}
 use Rattle.wse_path.specs.Path.{Path}
-use Rattle.wse_path.specs.Order.{path_cmp}
+use Rattle.wse_path.specs.Order.{path_cmp, is_named}
 use Rattle.wse_element.specs.declared.state.PartState.{PartState}
 use Rattle.wse_element.specs.declared.state.PartState.TheVariants.{Live, Closed, Incompatible}
 use Rattle.wse_element.specs.declared.effect.Effect.{Effect}
@@ -25,9 +25,9 @@ use Rattle.wse_element.proofs.MoveLemmas.{past_marked_other, future_marked_other
 use Rattle.wse_element.proofs.PieceLemmas.{StandsIn, past_split, future_split}
 use Rattle.wse_element.proofs.AfterLemmas.{none_else}
 use Rattle.wse_stacks.specs.Stacks.{HaveParts}
-use Rattle.wse_stacks.specs.Turns.{seen, look, is_named}
+use Rattle.wse_stacks.specs.Turns.{seen, look}
 use Rattle.wse_stacks.specs.Draft.{DraftState, next_draft, next_drafts, first_stop, paths_of, touched_by}
-use Rattle.wse_stacks.specs.Image.{HasParts}
+use Rattle.wse_element.specs.Laws.{PushesParts}
 use Rattle.wse_stacks.proofs.DraftLemmas.{IsKept, goes_on, kept_next}
 use Rattle.std.specs.List.{AllByRecursion}
 
@@ -159,7 +159,7 @@ still_named : (d : DraftState) (effects : List Effect) (p : Path) → is_named (
 still_named d [] p h = h
 still_named d (effect ∷ more) p h = any_front p d.touched (touched_by d.state.records effect) (still_named (next_draft d effect) more p h)
 
-pub look_each : (d : DraftState) (effects : List Effect) (p : Path) → AllByRecursion HasParts effects → first_stop d effects ≡ None → IsKept d.state → is_named (next_drafts d effects).touched p ≡ false → look (next_drafts d effects).state.records p ≡ look d.state.records p
+pub look_each : (d : DraftState) (effects : List Effect) (p : Path) → AllByRecursion PushesParts effects → first_stop d effects ≡ None → IsKept d.state → is_named (next_drafts d effects).touched p ≡ false → look (next_drafts d effects).state.records p ≡ look d.state.records p
 look_each d [] p parts h kept none = refl
 look_each d (effect ∷ more) p parts h kept none =
     let goes = goes_on d effect more h in

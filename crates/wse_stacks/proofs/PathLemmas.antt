@@ -7,14 +7,13 @@ use Rattle.std.specs.FinMap.{find, put, is_sorted}
 use Rattle.std.specs.FinMap.Entries.{find-put, below_all}
 use Rattle.std.specs.Ordering.{eq_by_cmp, is_lt}
 use Rattle.wse_path.specs.Path.{Path}
-use Rattle.wse_path.specs.Order.{path_cmp}
+use Rattle.wse_path.specs.Order.{path_cmp, is_named}
 use Rattle.wse_path.specs.Versions.{Numbers}
 use Rattle.wse_path.proofs.PathOrder.{total}
 use Rattle.wse_element.specs.Record.{RecordPart, Record}
 use Rattle.wse_element.specs.Live.{is_live, is_live_part_at, is_live_at}
 use Rattle.wse_element.proofs.ListLemmas.{find-any}
 use Rattle.wse_stacks.specs.Paths.{has_entry, keyed, AreLivePaths}
-use Rattle.wse_stacks.specs.Turns.{is_named}
 
 or_turn : (a b : Bool) → (a || b) ≡ (b || a)
 or_turn true true = refl

@@ -4,26 +4,23 @@ use Rattle.std.specs.List.{All, AllByRecursion}
 use Rattle.std.specs.FinMap.{is_sorted}
 use Rattle.std.proofs.lemmas.List.Elements.{All-from_recursion}
 use Rattle.wse_path.specs.Path.{Path}
-use Rattle.wse_path.specs.Order.{path_cmp}
+use Rattle.wse_path.specs.Order.{path_cmp, is_named}
 use Rattle.wse_path.specs.Versions.{Numbers, VersionsState, version_of, bumped_by}
 use Rattle.wse_path.proofs.VersionLemmas.{IsSmall}
 use Rattle.wse_element.specs.declared.effect.Effect.{Effect}
 use Rattle.wse_element.specs.Record.{Record}
 use Rattle.wse_element.specs.State.{StacksState}
-use Rattle.wse_element.specs.Effects.{after, after_each, begun, left_by}
+use Rattle.wse_element.specs.Effects.{begun, left_by}
+use Rattle.wse_element.proofs.FoldLemmas.{serial_stays}
 use Rattle.wse_stacks.specs.declared.prepared.Prepared.{Prepared}
 use Rattle.wse_stacks.specs.Draft.{DraftState, next_drafts, first_stop, begun_draft}
-use Rattle.wse_stacks.specs.Image.{HasParts}
+use Rattle.wse_element.specs.Laws.{PushesParts}
 use Rattle.wse_stacks.specs.Stacks.{IsHistory}
-use Rattle.wse_stacks.specs.Turns.{look, is_named, AreNoted, Turned}
+use Rattle.wse_stacks.specs.Turns.{look, AreNoted, Turned}
 use Rattle.wse_stacks.specs.Prepared.{IsPrepared, IsPreparedIfAny, AreStacks}
 use Rattle.wse_stacks.proofs.DraftLemmas.{IsKept, kept_each, bounded_each, state_after_all, id_bounds}
 use Rattle.wse_stacks.proofs.LookLemmas.{look_each}
 use Rattle.wse_stacks.proofs.TurnLemmas.{turned_as_noted, turned_counted, counted_more, small_bumps}
-
-serial_stays : (s : StacksState) (effects : List Effect) → (after_each s effects).serial ≡ s.serial
-serial_stays s [] = refl
-serial_stays s (effect ∷ more) = serial_stays (after s effect) more
 
 -- a history that is begun
 kept_begun : (h : StacksState) → IsHistory h → IsKept (begun h)
@@ -36,7 +33,7 @@ pub record Found (h : StacksState) (effects : List Effect) (d : DraftState) (not
   pub history : IsHistory h
   pub some : effects ≢ []
   pub goes : first_stop (begun_draft h) effects ≡ None
-  pub parts : AllByRecursion HasParts effects
+  pub parts : AllByRecursion PushesParts effects
   pub draft : d ≡ next_drafts (begun_draft h) effects
   pub rises : is_sorted path_cmp noted ≡ true
   pub marks : AreNoted h.records d.state.records d.touched noted

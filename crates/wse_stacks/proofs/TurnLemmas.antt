@@ -8,7 +8,7 @@ use Rattle.std.specs.FinMap.Entries.{find-put, below_all, by_order}
 use Rattle.std.specs.Ordering.{eq_by_cmp}
 use Rattle.std.proofs.lemmas.Bool.{both_ways, false≢true}
 use Rattle.wse_path.specs.Path.{Path}
-use Rattle.wse_path.specs.Order.{path_cmp}
+use Rattle.wse_path.specs.Order.{path_cmp, is_named}
 use Rattle.wse_path.specs.Versions.{Numbers, version_of, bumped, bumped_by}
 use Rattle.wse_path.proofs.PathOrder.{total, same_path}
 use Rattle.wse_path.proofs.EntryLemmas.{and_parts}
@@ -16,7 +16,7 @@ use Rattle.wse_path.proofs.MergeLemmas.{find_below}
 use Rattle.std.specs.declared.cmp.Ordering.TheVariants.{Less, Equal, Greater}
 use Rattle.wse_element.specs.Record.{Record}
 use Rattle.wse_element.proofs.LiveLemmas.{eq_itself}
-use Rattle.wse_stacks.specs.Turns.{Turned, look, IsNoted, is_named, AreNoted}
+use Rattle.wse_stacks.specs.Turns.{Turned, look, IsNoted, AreNoted}
 
 abbrev at_path : Path → Path → Bool
 at_path q p = eq_by_cmp path_cmp q p

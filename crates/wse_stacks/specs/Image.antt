@@ -5,7 +5,7 @@ use Rattle.wse_element.specs.declared.state.PartState.{PartState}
 use Rattle.wse_element.specs.declared.state.PartState.TheVariants.{Live, Closed, Incompatible}
 use Rattle.wse_element.specs.declared.effect.Effect.{Effect}
 use Rattle.wse_element.specs.declared.effect.Effect.TheVariants.{Push, MoveBack, MoveForward, Split, Drop, Invalidate, Bump, Set}
-use Rattle.wse_element.specs.Record.{Record, AreParts}
+use Rattle.wse_element.specs.Record.{Record}
 use Rattle.wse_element.specs.Live.{has_live}
 use Rattle.wse_element.specs.Losses.{lost_at, future_lost_at, invalid_at}
 use Rattle.wse_element.specs.Split.{split_one}
@@ -39,8 +39,3 @@ images effect records = flat_map (image effect) records
 abbrev pub IsSmall : Effect → Type 0
 IsSmall (Split id first) = first < 2 ^ 63
 IsSmall _ = ⊤
-
--- A new record has parts, and their paths rise.
-abbrev pub HasParts : Effect → Type 0
-HasParts (Push element) = AreParts element.parts
-HasParts _ = ⊤

@@ -7,3 +7,4 @@ pub mod Draft
 pub mod Refused
 pub mod Paths
 pub mod Words
+pub mod Weigh

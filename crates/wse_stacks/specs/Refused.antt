@@ -1,5 +1,5 @@
 -- Why elements or effects are refused. This project's own rule.
-use Rattle.std.specs.Prelude.{◌≡◌, ℕ, ◌+◌, ◌<◌, ◌≤◌, false, List, length, take, Some, ⊤}
+use Rattle.std.specs.Prelude.{◌≡◌, ℕ, ◌+◌, ◌<◌, ◌≤◌, true, false, List, length, take, Some, ⊤}
 use Rattle.wse_element.specs.declared.effect.Effect.{Effect}
 use Rattle.wse_element.specs.Linked.{IsLinked}
 use Rattle.wse_element.specs.Numbers.{is_bounded}
@@ -21,6 +21,11 @@ pub record IsFirstUnlinked (h : StacksState) (index : ℕ) : Type 0 where
 abbrev pub TellsUnlinked : StacksState → StacksRefused → Type 0
 TellsUnlinked h (made.NotLinked index) = IsFirstUnlinked h index
 TellsUnlinked h made.Memory = ⊤
+
+-- Where it isn't for want of memory, the whole isn't linked and within its bounds.
+abbrev pub IsUnlinked : StacksState → StacksRefused → Type 0
+IsUnlinked h (made.NotLinked index) = IsLinked h.next_id h.records → is_bounded h ≡ true → ⊥
+IsUnlinked h made.Memory = ⊤
 
 -- The place of the first effect that isn't applicable after those before it.
 abbrev pub TellsRefused : StacksState → List Effect → ReserveRefused → Type 0

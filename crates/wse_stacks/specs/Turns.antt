@@ -1,10 +1,9 @@
 -- What is seen of the history of a path, and how often that changed. This project's own rule.
 use Rattle.std.specs.Prelude.{◌≡◌, ◌≢◌, ◌⊎◌, ℕ, ◌+◌, Bool, true, List, map}
-use Rattle.std.specs.List.{list_any, AllByRecursion}
+use Rattle.std.specs.List.{AllByRecursion}
 use Rattle.std.specs.FinMap.{put}
-use Rattle.std.specs.Ordering.{eq_by_cmp}
 use Rattle.wse_path.specs.Path.{Path}
-use Rattle.wse_path.specs.Order.{path_cmp}
+use Rattle.wse_path.specs.Order.{path_cmp, is_named}
 use Rattle.wse_path.specs.Versions.{Numbers, version_of}
 use Rattle.wse_element.specs.Record.{Record}
 use Rattle.wse_element.specs.Live.{is_valid_at}
@@ -31,9 +30,6 @@ pub record Turned (old new : List Record) (before after : Path → ℕ) : Type 0
 abbrev pub IsNoted : List Record → List Record → Path → Numbers → Numbers → Type 0
 IsNoted old new p before after =
     ((after ≡ before) × (look old p ≡ look new p)) ⊎ ((after ≡ put path_cmp p 1 before) × (look old p ≢ look new p))
-
-abbrev pub is_named : List Path → Path → Bool
-is_named paths p = list_any (λ q. eq_by_cmp path_cmp p q) paths
 
 -- Each of these paths is noted as what it is, and no other.
 pub record AreNoted (old new : List Record) (paths : List Path) (noted : Numbers) : Type 0 where

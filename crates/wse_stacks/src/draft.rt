@@ -89,7 +89,7 @@ pub(crate) fn is_bounded(records: &Records, next_id: u64, serial: u64) -> bool
 }
 
 impl Draft {
-    ghost use Rattle.wse_stacks.specs.Image.{HasParts};
+    ghost use Rattle.wse_element.specs.Laws.{PushesParts};
     ghost use Rattle.wse_stacks.specs.Draft.{begun_draft, next_draft, is_next};
 
     /// No effect is done yet, but the command is counted.
@@ -158,7 +158,7 @@ impl Draft {
         requires small { self.old.state.next_id < 2 ^ 63 }
         ensures bounded { IfOk result (λ bounded. bounded ≡ is_bounded (after self.old.state effect.now)) }
         ensures after { IfOk result (λ bounded. bounded ≡ true → self.new ≡ next_draft self.old effect.now) }
-        ensures parts { OnOk result (HasParts effect.now) }
+        ensures parts { OnOk result (PushesParts effect.now) }
     {
         let next_id = self.next_id_after(effect);
         push_touched(&mut self.touched, alloc, self.records.as_slice(), effect)?;
@@ -173,7 +173,7 @@ impl Draft {
         requires small { self.old.state.next_id < 2 ^ 63 }
         ensures next { IfOk result (λ is. is ≡ is_next self.old effect.now) }
         ensures after { IfOk result (λ is. is ≡ true → self.new ≡ next_draft self.old effect.now) }
-        ensures parts { IfOk result (λ is. is ≡ true → HasParts effect.now) }
+        ensures parts { IfOk result (λ is. is ≡ true → PushesParts effect.now) }
     {
         if !self.may_come(effect) {
             return Ok(false);

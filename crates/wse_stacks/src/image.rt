@@ -4,7 +4,8 @@ ghost use Rattle.wse_element.specs.Record.{AreParts};
 ghost use Rattle.wse_element.specs.Split.{split_one};
 ghost use Rattle.wse_element.specs.Stacks.{has_id};
 ghost use Rattle.wse_element.specs.Effects.{records_after};
-ghost use Rattle.wse_stacks.specs.Image.{if_live, image_lost, image, images, IsSmall, HasParts};
+ghost use Rattle.wse_stacks.specs.Image.{if_live, image_lost, image, images, IsSmall};
+ghost use Rattle.wse_element.specs.Laws.{PushesParts};
 
 use crate::entry::Entry;
 use crate::lose::{future_lost, invalidated, lost, marked};
@@ -117,7 +118,7 @@ fn pass(records: &mut Records, alloc: Global, effect: &Effect) -> Result<(), Mem
 pub(crate) fn enact(records: &mut Records, alloc: Global, effect: &Effect) -> Result<(), Memory>
     requires { IsSmall effect.now }
     ensures after { OnOk result (records.new ≡ records_after records.old effect.now) }
-    ensures parts { OnOk result (HasParts effect.now) }
+    ensures parts { OnOk result (PushesParts effect.now) }
 {
     match effect {
         Effect::Push(element) => push_copy(records, alloc, element),

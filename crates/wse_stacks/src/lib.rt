@@ -14,10 +14,12 @@ mod prepare;
 mod prepared;
 mod records;
 mod refused;
+mod remembered;
 mod search;
 mod stacks;
 mod touched;
 mod turned;
+mod weigh;
 
 pub use refused::{ReserveRefused, StacksRefused};
 pub use stacks::Stacks;

@@ -6,10 +6,11 @@ ghost use Rattle.wse_stacks.specs.Refused.{TellsRefused};
 ghost use Rattle.wse_stacks.specs.Prepared.{IsPrepared};
 
 use crate::draft::Draft;
-use crate::prepared::{Prepared, copies, try_each};
+use crate::prepared::{Prepared, try_each};
 use crate::records::Records;
 use crate::refused::ReserveRefused;
-use crate::turned::{copies as entry_copies, turned};
+use crate::remembered::Remembered;
+use crate::turned::{copies, turned};
 use std::alloc::Global;
 use wse_element::Effect;
 
@@ -33,8 +34,8 @@ pub(crate) fn prepare(
         return Err(ReserveRefused::NotApplicable { index });
     }
     let noted = turned(records.as_slice(), draft.entries(), alloc, draft.touched())?;
-    let turned = entry_copies(alloc, noted.as_slice())?;
-    let effects = copies(alloc, effects)?;
+    let turned = copies(alloc, noted.as_slice())?;
+    let effects = Remembered::of(alloc, effects)?;
     let (records, next_id) = draft.finish();
     Ok(Prepared {
         effects,

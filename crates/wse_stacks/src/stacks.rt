@@ -1,15 +1,19 @@
 // The stacks of the history.
 ghost use Rattle.std.specs.Prelude.{◌≡◌, ◌≢◌, ℕ, [], length, true, Some, None, option_map, slice_get, IfOk, IfErr, OnOk, OnErr};
 ghost use Rattle.std.specs.Option.{option_copied};
+ghost use Rattle.std.specs.List.{All, list_any};
 ghost use Rattle.wse_path.specs.Path.{Path};
+ghost use Rattle.wse_path.specs.PathMap.{capped};
+ghost use Rattle.wse_element.specs.Live.{is_valid_at};
 ghost use Rattle.wse_element.specs.Stacks.{closest_past, closest_future, record_of};
 ghost use Rattle.wse_element.specs.Effects.{left_by};
 ghost use Rattle.wse_element.specs.Numbers.{is_bounded};
 ghost use Rattle.wse_element.specs.Linked.{IsLinked};
 ghost use Rattle.wse_element.specs.Applicable.{AreApplicable};
 ghost use Rattle.wse_element.specs.Weight.{weight};
+ghost use Rattle.wse_stacks.specs.Image.{IsSmall};
 ghost use Rattle.wse_stacks.specs.Paths.{AreLivePaths};
-ghost use Rattle.wse_stacks.specs.Refused.{TellsUnlinked, TellsRefused};
+ghost use Rattle.wse_stacks.specs.Refused.{TellsUnlinked, IsUnlinked, TellsRefused};
 ghost use Rattle.wse_stacks.specs.Turns.{Turned};
 
 use crate::draft::is_bounded;
@@ -19,7 +23,8 @@ use crate::prepare::prepare;
 use crate::prepared::Prepared;
 use crate::records::Records;
 use crate::refused::{ReserveRefused, StacksRefused};
-use crate::search::{closest_future, closest_past, record_of};
+use crate::search::{closest_future, closest_past, is_valid_at, record_of};
+use crate::weigh::weight_after;
 use std::alloc::Global;
 use std::marker::Model;
 use wse_element::{Effect, Effects, Element, Elements};
@@ -85,6 +90,7 @@ impl Stacks {
         ensures turns { IfOk result (λ stacks. (p : Path) → turns stacks p ≡ 0) }
         ensures prepared { IfOk result (λ stacks. stacks.prepared ≡ None) }
         ensures refused { IfErr result (TellsUnlinked (record { records = elements; next_id = next_id; serial = serial })) }
+        ensures unlinked { IfErr result (IsUnlinked (record { records = elements; next_id = next_id; serial = serial })) }
     {
         let mut records = Records::new(alloc);
         if let Some(index) = link(&mut records, alloc, elements, next_id)? {
@@ -169,6 +175,22 @@ impl Stacks {
         ensures { result ≡ weight self.now.state.records }
     {
         self.records.weight()
+    }
+
+    /// What all elements will count for after these effects, or 2^64-1 where that is greater. It looks into the effects, and
+    /// into the elements from which one of them may take.
+    pub fn weight_after(&self, alloc: Global, effects: &[Effect]) -> Result<u64, Memory>
+        requires small { All IsSmall effects.now }
+        ensures { IfOk result (λ w. w ≡ capped (weight (left_by effects.now self.now.state).records)) }
+    {
+        weight_after(&self.records, alloc, effects)
+    }
+
+    /// Whether a live part at the path is valid. Takes no memory.
+    pub fn is_valid_at(&self, path: &RelPath) -> bool
+        ensures { result ≡ list_any (is_valid_at path.now) self.now.state.records }
+    {
+        is_valid_at(self.records.as_slice(), path)
     }
 
     /// How often the path's history turned. Takes no memory.

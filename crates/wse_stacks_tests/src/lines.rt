@@ -3,7 +3,7 @@ use crate::effects::effects;
 use crate::given::{number, path};
 use std::alloc::Global;
 use std::test::Fail;
-use wse_element::{Effect, Effects, Elements};
+use wse_element::{Effect, Effects, Elements, PartState};
 use wse_path::Files;
 use wse_stacks::{ReserveRefused, Stacks, StacksRefused};
 
@@ -117,6 +117,20 @@ fn has_paths(stacks: &Stacks, alloc: Global, text: &str) -> Result<bool, Fail> {
     are_paths(&files, alloc, text)
 }
 
+// What all will count for where the path's history is closed.
+fn is_left(stacks: &Stacks, alloc: Global, text: &str) -> Result<bool, Fail> {
+    match text.split_once(' ') {
+        Some((file, weight)) => {
+            let effects = [Effect::Drop {
+                path: path(alloc, file)?,
+                reason: PartState::Closed,
+            }];
+            Ok(stacks.weight_after(alloc, &effects)? == number(weight))
+        }
+        None => Ok(false),
+    }
+}
+
 fn line_holds(stacks: &mut Stacks, alloc: Global, line: &str) -> Result<bool, Fail> {
     let Some((word, rest)) = line.split_once(' ') else {
         return Ok(false);
@@ -132,6 +146,7 @@ fn line_holds(stacks: &mut Stacks, alloc: Global, line: &str) -> Result<bool, Fa
         "next" => Ok(stacks.next_id() == number(rest)),
         "serial" => Ok(stacks.serial() == number(rest)),
         "weight" => Ok(stacks.weight() == number(rest)),
+        "left" => is_left(stacks, alloc, rest),
         "count" => Ok(stacks.count() as u64 == number(rest)),
         _ => Ok(false),
     }

@@ -95,6 +95,9 @@ fn losses_and_invalid_parts(rt: HostRuntime) -> Result<(), Fail> {
         do set b;bump b
         turns b 4
         no 0 back 2
+        left a 519
+        left b 259
+        left c 778
         do close b
         ids 3
         weight 259
