@@ -14,7 +14,7 @@ use Rattle.wse_log.specs.declared.step.Step.TheVariants.{End}
 use Rattle.wse_log.specs.declared.step.ScanFault.{ScanFault}
 use Rattle.wse_log.specs.declared.step.ScanFault.TheVariants.{NotALog, Disk, Memory}
 use Rattle.wse_log.specs.declared.record.Found.{Found}
-use Rattle.wse_log.specs.Grammar.{Record, HasShortBody, header, open_gate, settled_byte, behind_gate, front, stretch, BeginsWith, BreaksAt, NoHeader, FailsHeader, BeginWithNoRecord}
+use Rattle.wse_log.specs.Grammar.{JournalRecord, HasShortBody, header, open_gate, settled_byte, behind_gate, front, stretch, BeginsWith, BreaksAt, NoHeader, FailsHeader, BeginWithNoRecord}
 use Rattle.wse_log.specs.Reads.{ReadsByte, ReadsNumber}
 use Rattle.wse_log.specs.Found.{record_of, FindsHeader, ReadsHeader, ReadsGate, ReadsMark, ReadsRecord}
 use Rattle.wse_log.specs.Scan.{entry_of, IsPieceBehind, GivesPiece}
@@ -50,7 +50,7 @@ finds_header (Some s) area len count size part found is sizes same reads none so
     sized (inr long) = inr (omega (arith, is, long.0), long.1)
 
 -- What a record takes behind its gate.
-length_behind : (r : Record) (more : List ℕ) → length (behind_gate r ++ more) ≡ 5 + length r.body + length more
+length_behind : (r : JournalRecord) (more : List ℕ) → length (behind_gate r ++ more) ≡ 5 + length r.body + length more
 length_behind r more = omega (arith, length-append (behind_gate r) more, length-append r.body (r.mark ∷ []))
 
 pub too_short : (bytes : List ℕ) (gate : ℕ) → gate < length bytes → length bytes - gate - 1 < 4 → BeginWithNoRecord (drop (gate + 1) bytes)
@@ -86,7 +86,7 @@ part_there bytes part place n is =
 
 pub record_there : (bytes body : List ℕ) (gate n mark : ℕ) → to_be_bytes w32 n ≡ slice_range bytes (gate + 1) (gate + 1 + 4) → body ≡ slice_range bytes (gate + 5) (gate + 5 + n) → length body ≡ n → get_or bytes (gate + 5 + n) 0 ≡ mark → gate + 5 + n < length bytes → drop (gate + 1) bytes ≡ behind_gate (record { body = body; mark = mark }) ++ drop (gate + 5 + n + 1) bytes
 record_there bytes body gate n mark number is count byte within =
-    let r : Record = record { body = body; mark = mark } in
+    let r : JournalRecord = record { body = body; mark = mark } in
     let tail = drop (gate + 5 + n + 1) bytes in
     let five : gate + 1 + 4 ≡ gate + 5 = omega arith in
     let first : drop (gate + 1) bytes ≡ to_be_bytes w32 (length body) ++ drop (gate + 5) bytes =
@@ -103,7 +103,7 @@ finds_record (Some s) area len gate n mark body is number part count byte within
     (drop (gate + 5 + n + 1) bytes, record_there bytes body gate n mark number part count byte (omega (arith, is)))
 
 -- A later piece.
-module _ (bytes : List ℕ) (before : List Record) (begins : BeginsWith bytes before) (gate : ℕ) (later : 0 < gate) (at' : gate ≡ length (stretch before)) where
+module _ (bytes : List ℕ) (before : List JournalRecord) (begins : BeginsWith bytes before) (gate : ℕ) (later : 0 < gate) (at' : gate ≡ length (stretch before)) where
   some : before ≢ []
   some = some_later before (subst (λ (n : ℕ). 0 < n) at' later)
 
@@ -122,7 +122,7 @@ module _ (bytes : List ℕ) (before : List Record) (begins : BeginsWith bytes be
   cut_there : gate < length bytes → get_or bytes gate 0 ≡ open_gate → get_or bytes (gate - 1) 0 ≡ settled_byte → BeginWithNoRecord (drop (gate + 1) bytes) → BreaksAt bytes before gate
   cut_there = subst (λ (n : ℕ). n < length bytes → get_or bytes n 0 ≡ open_gate → get_or bytes (n - 1) 0 ≡ settled_byte → BeginWithNoRecord (drop (n + 1) bytes) → BreaksAt bytes before n) is_front (later_cut bytes before begins some)
 
-  entry_there : (r : Record) (more : List ℕ) → gate < length bytes → get_or bytes gate 0 ≡ open_gate → get_or bytes (gate - 1) 0 ≡ settled_byte → drop (gate + 1) bytes ≡ behind_gate r ++ more → HasShortBody r → IsPieceBehind bytes before (Ok (entry_of gate r.body r.mark))
+  entry_there : (r : JournalRecord) (more : List ℕ) → gate < length bytes → get_or bytes gate 0 ≡ open_gate → get_or bytes (gate - 1) 0 ≡ settled_byte → drop (gate + 1) bytes ≡ behind_gate r ++ more → HasShortBody r → IsPieceBehind bytes before (Ok (entry_of gate r.body r.mark))
   entry_there r more within same settled whole short =
       let P : ℕ → Type 0 = λ n. n < length bytes → get_or bytes n 0 ≡ open_gate → get_or bytes (n - 1) 0 ≡ settled_byte → drop (n + 1) bytes ≡ behind_gate r ++ more → IsPieceBehind bytes before (Ok (entry_of n r.body r.mark)) in
       let at_front : P (length (front before)) = λ inside opened mark behind. (r.mark, later_holds bytes before begins some r more inside opened behind short, end_settled bytes before begins some mark, (λ none. absurd (some none)), refl) in
@@ -163,8 +163,8 @@ module _ (area : Area) (len gate : ℕ) (later : 0 < gate) where
 -- The first piece.
 module _ (area : Area) (len : ℕ) where
   -- What holds behind no records holds of the first piece.
-  at_first : (bytes : List ℕ) (result : Result Step ScanFault) → IsPieceBehind bytes [] result → (before : List Record) → BeginsWith bytes before → 0 ≡ length (stretch before) → IsPieceBehind bytes before result
-  at_first bytes result is before begins at' = subst (λ (l : List Record). IsPieceBehind bytes l result) (sym (none_at_zero before at')) is
+  at_first : (bytes : List ℕ) (result : Result Step ScanFault) → IsPieceBehind bytes [] result → (before : List JournalRecord) → BeginsWith bytes before → 0 ≡ length (stretch before) → IsPieceBehind bytes before result
+  at_first bytes result is before begins at' = subst (λ (l : List JournalRecord). IsPieceBehind bytes l result) (sym (none_at_zero before at')) is
 
   pub gives_fault : (told : Option Standing) (place : ℕ) → ReadsHeader told area (Some place) → GivesPiece told area 0 (Err (NotALog place))
   gives_fault None place fails = tt

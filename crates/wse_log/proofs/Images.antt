@@ -5,16 +5,16 @@ use Rattle.std.proofs.lemmas.Bool.{cases_eq}
 use Rattle.std.proofs.lemmas.List.{take_at, drop_at, drop_more, length_push}
 use Rattle.std.proofs.lemmas.List.Prefix.{front_from_reads, front_reads, at_from_reads, at_reads}
 use Rattle.wse_disk.specs.Reading.{patched}
-use Rattle.wse_log.specs.Grammar.{Record, IsSettled, HasShortBody, open_gate, settled_byte, framed, behind_gate, front, IsJournal}
+use Rattle.wse_log.specs.Grammar.{JournalRecord, IsSettled, HasShortBody, open_gate, settled_byte, framed, behind_gate, front, IsJournal}
 use Rattle.wse_log.specs.Writing.{unsettled, settled, staging, next_gate}
 use Rattle.wse_log.proofs.Fronts.{front-push, length-front-push}
 use Rattle.wse_log.proofs.Order.{order-push, settled_before, short_front, short_last}
 
-push_some : (records : List Record) (r : Record) → records ++ r ∷ [] ≢ []
+push_some : (records : List JournalRecord) (r : JournalRecord) → records ++ r ∷ [] ≢ []
 push_some records r none = omega (arith, ap length none, length_push records r)
 
 -- An open gate, and behind it what was written there, is one record more and a closed gate.
-opened : (records : List Record) (body rest : List ℕ) → front records ++ open_gate ∷ (staging body ++ rest) ≡ front (records ++ unsettled body ∷ []) ++ 0 ∷ rest
+opened : (records : List JournalRecord) (body rest : List ℕ) → front records ++ open_gate ∷ (staging body ++ rest) ≡ front (records ++ unsettled body ∷ []) ++ 0 ∷ rest
 opened records body rest =
     let r = unsettled body in
     ap (λ (l : List ℕ). front records ++ open_gate ∷ l) (append_assoc (behind_gate r) (0 ∷ []) rest)
@@ -24,7 +24,7 @@ opened records body rest =
 pub length_staging : (body : List ℕ) → length (staging body) ≡ length body + 6
 length_staging body = omega (arith, length-append (behind_gate (unsettled body)) (0 ∷ []), length-append body (0 ∷ []))
 
-module _ (area : List ℕ) (records : List Record) (gate : ℕ) (is : IsJournal area records gate) where
+module _ (area : List ℕ) (records : List JournalRecord) (gate : ℕ) (is : IsJournal area records gate) where
   shut : List ℕ
   shut = front records ++ is.ends.byte ∷ []
 
@@ -152,11 +152,11 @@ module _ (area : List ℕ) (records : List Record) (gate : ℕ) (is : IsJournal 
           ∙ append_assoc (front records) (open_gate ∷ []) tail)
 
 -- The mark of the last record.
-module _ (area : List ℕ) (others : List Record) (r : Record) (gate : ℕ) (is : IsJournal area (others ++ r ∷ []) gate) (some : others ≢ []) where
+module _ (area : List ℕ) (others : List JournalRecord) (r : JournalRecord) (gate : ℕ) (is : IsJournal area (others ++ r ∷ []) gate) (some : others ≢ []) where
   upto_mark : List ℕ
   upto_mark = front others ++ (open_gate ∷ take 4 (behind_gate r) ++ r.body)
 
-  abbrev marked : ℕ → Record
+  abbrev marked : ℕ → JournalRecord
   marked mark = record { body = r.body; mark = mark }
 
   with_mark : (mark : ℕ) → front (others ++ marked mark ∷ []) ≡ upto_mark ++ mark ∷ []

@@ -10,29 +10,29 @@ use Rattle.wse_log.specs.declared.step.Step.{Step}
 use Rattle.wse_log.specs.declared.step.Step.TheVariants.{Entry, End}
 use Rattle.wse_log.specs.declared.step.ScanFault.{ScanFault}
 use Rattle.wse_log.specs.declared.step.ScanFault.TheVariants.{NotALog, Disk, Memory}
-use Rattle.wse_log.specs.Grammar.{Record, IsSettled, HasShortBody, AreInOrder, EndSettled, front, BeginsWith, Ending, ClosedAt, BrokenAt, Reads}
-use Rattle.wse_log.specs.Scan.{entry_of, IsAtPiece, IsPieceBehind, GivesPiece, answer_behind, IsUnlessFault, GivesInOrder, GoesOn}
+use Rattle.wse_log.specs.Grammar.{JournalRecord, IsSettled, HasShortBody, AreInOrder, EndSettled, front, BeginsWith, JournalEnd, ClosedAt, BrokenAt, Reads}
+use Rattle.wse_log.specs.Scan.{entry_of, IsAtPiece, IsPieceBehind, GivesPiece, answer_behind, IsUnlessFault, GivesInOrder, CanScanOn}
 use Rattle.wse_log.proofs.Fronts.{stretch-some, stretch-push, length-front-push}
 use Rattle.wse_log.proofs.Order.{all_end_settled}
 use Rattle.wse_log.proofs.Places.{fewer, closed_begins}
 use Rattle.wse_log.proofs.Once.{Piece, Holds, Ends, Breaks, IsPiece, one_piece}
 
 -- The piece behind the first records of an area that has these other records and then ends so.
-abbrev pub piece_of : List Record → Ending → Piece
+abbrev pub piece_of : List JournalRecord → JournalEnd → Piece
 piece_of (r ∷ others) ending = Holds r
 piece_of [] (ClosedAt gate) = Ends gate
 piece_of [] (BrokenAt place) = Breaks place
 
-reads_order : (area : List ℕ) (records : List Record) (ending : Ending) → Reads area records ending → AreInOrder records
+reads_order : (area : List ℕ) (records : List JournalRecord) (ending : JournalEnd) → Reads area records ending → AreInOrder records
 reads_order area records (ClosedAt gate) is = is.order
 reads_order area records (BrokenAt place) is = is.0
 
-reads_whole : (area : List ℕ) (records : List Record) (ending : Ending) → Reads area records ending → BeginsWith area records
+reads_whole : (area : List ℕ) (records : List JournalRecord) (ending : JournalEnd) → Reads area records ending → BeginsWith area records
 reads_whole area records (ClosedAt gate) is = closed_begins area records gate is.order.short is.ends
 reads_whole area records (BrokenAt place) is = is.1
 
 -- Records that others follow are settled.
-followed_settled : (before : List Record) (r : Record) (others : List Record) → AreInOrder (before ++ r ∷ others) → EndSettled before
+followed_settled : (before : List JournalRecord) (r : JournalRecord) (others : List JournalRecord) → AreInOrder (before ++ r ∷ others) → EndSettled before
 followed_settled before r others order =
     let whole = before ++ r ∷ others in
     let n = length before in
@@ -41,33 +41,33 @@ followed_settled before r others order =
     sym (take_at before (r ∷ others) n refl) ∙ sym (take-take n m whole (omega (arith, length-append before (r ∷ others)))) in
     all_end_settled before (All-same IsSettled before (take n (take m whole)) same (All-take IsSettled n (take m whole) order.followed))
 
-first_settled : (before : List Record) (r : Record) (others : List Record) → AreInOrder (before ++ r ∷ others) → before ≡ [] → IsSettled r
+first_settled : (before : List JournalRecord) (r : JournalRecord) (others : List JournalRecord) → AreInOrder (before ++ r ∷ others) → before ≡ [] → IsSettled r
 first_settled [] r others order none = All-head IsSettled r [] order.first
 first_settled (x ∷ xs) r others order none = cc
 
-pub reads_piece : (area : List ℕ) (before after : List Record) (ending : Ending) → Reads area (before ++ after) ending → IsPiece area before (piece_of after ending)
+pub reads_piece : (area : List ℕ) (before after : List JournalRecord) (ending : JournalEnd) → Reads area (before ++ after) ending → IsPiece area before (piece_of after ending)
 reads_piece area before (r ∷ others) ending is =
     let order = reads_order area (before ++ r ∷ others) ending is in
     let regrouped : BeginsWith area ((before ++ r ∷ []) ++ others) = subst (BeginsWith area) (sym (append_assoc before (r ∷ []) others)) (reads_whole area (before ++ r ∷ others) ending is) in
     (fewer area (before ++ r ∷ []) others regrouped, followed_settled before r others order, first_settled before r others order)
-reads_piece area before [] (ClosedAt gate) is = (subst (λ (l : List Record). Reads area l (ClosedAt gate)) (append-nil before) is).ends
-reads_piece area before [] (BrokenAt place) is = (subst (λ (l : List Record). Reads area l (BrokenAt place)) (append-nil before) is).2
+reads_piece area before [] (ClosedAt gate) is = (subst (λ (l : List JournalRecord). Reads area l (ClosedAt gate)) (append-nil before) is).ends
+reads_piece area before [] (BrokenAt place) is = (subst (λ (l : List JournalRecord). Reads area l (BrokenAt place)) (append-nil before) is).2
 
-pub reads_begins : (area : List ℕ) (before after : List Record) (ending : Ending) → Reads area (before ++ after) ending → BeginsWith area before
+pub reads_begins : (area : List ℕ) (before after : List JournalRecord) (ending : JournalEnd) → Reads area (before ++ after) ending → BeginsWith area before
 reads_begins area before after ending is = fewer area before after (reads_whole area (before ++ after) ending is)
 
 -- The answer that is that piece.
-abbrev answer_of : List Record → Piece → Result Step ScanFault
+abbrev answer_of : List JournalRecord → Piece → Result Step ScanFault
 answer_of before (Holds r) = Ok (entry_of (length (front before)) r.body r.mark)
 answer_of before (Ends gate) = Ok (End gate)
 answer_of before (Breaks place) = Err (NotALog place)
 
-same_answer : (before after : List Record) (ending : Ending) → answer_of before (piece_of after ending) ≡ answer_behind before after ending
+same_answer : (before after : List JournalRecord) (ending : JournalEnd) → answer_of before (piece_of after ending) ≡ answer_behind before after ending
 same_answer before (r ∷ others) ending = refl
 same_answer before [] (ClosedAt gate) = refl
 same_answer before [] (BrokenAt place) = refl
 
-in_order : (area : List ℕ) (before after : List Record) (ending : Ending) (result : Result Step ScanFault) → Reads area (before ++ after) ending → IsPieceBehind area before result → IsUnlessFault result (answer_behind before after ending)
+in_order : (area : List ℕ) (before after : List JournalRecord) (ending : JournalEnd) (result : Result Step ScanFault) → Reads area (before ++ after) ending → IsPieceBehind area before result → IsUnlessFault result (answer_behind before after ending)
 in_order area before after ending (Ok (Entry body gate settled next)) reads is =
     ap Ok is.4 ∙ ap (answer_of before) (one_piece area before (Holds (record { body = body; mark = is.0 })) (piece_of after ending) (is.1, is.2, is.3) (reads_piece area before after ending reads)) ∙ same_answer before after ending
 in_order area before after ending (Ok (End gate)) reads is =
@@ -83,11 +83,11 @@ gives_in_order (Some s) area at' result gives = λ before after ending reads pla
     in_order (area_of area s.reading) before after ending result reads (gives before (reads_begins (area_of area s.reading) before after ending reads) place)
 
 -- The place behind an answer is that of the next piece.
-pub goes_on : (told : Option Standing) (area : Area) (at' : ℕ) (step : Step) → IsAtPiece told area at' → GivesPiece told area at' (Ok step) → GoesOn told area step
+pub goes_on : (told : Option Standing) (area : Area) (at' : ℕ) (step : Step) → IsAtPiece told area at' → GivesPiece told area at' (Ok step) → CanScanOn told area step
 goes_on None area at' step is gives = tt
 goes_on (Some s) area at' (Entry body gate settled next) is gives =
     let piece = gives is.0 is.1 is.2 in
-    let r : Record = record { body = body; mark = piece.0 } in
+    let r : JournalRecord = record { body = body; mark = piece.0 } in
     let place : next ≡ length (front is.0) + 6 + length body = next_of piece.4 in
     (is.0 ++ r ∷ [], piece.1, omega (arith, place, length-front-push is.0 r, ap length (stretch-push is.0 r)))
   where
@@ -97,8 +97,8 @@ goes_on (Some s) area at' (End gate) is gives =
     let piece = gives is.0 is.1 is.2 in
     (is.0, is.1, piece.place ∙ sym (ap length (stretch-some is.0 piece.some)))
 
-pub goes_on_where_ok : (told later : Option Standing) (area : Area) (at' : ℕ) (result : Result Step ScanFault) → later ≡ told → IsAtPiece told area at' → GivesPiece told area at' result → IfOk result (GoesOn later area)
-goes_on_where_ok told later area at' (Ok step) same is gives = subst (λ (t : Option Standing). GoesOn t area step) (sym same) (goes_on told area at' step is gives)
+pub goes_on_where_ok : (told later : Option Standing) (area : Area) (at' : ℕ) (result : Result Step ScanFault) → later ≡ told → IsAtPiece told area at' → GivesPiece told area at' result → IfOk result (CanScanOn later area)
+goes_on_where_ok told later area at' (Ok step) same is gives = subst (λ (t : Option Standing). CanScanOn t area step) (sym same) (goes_on told area at' step is gives)
 goes_on_where_ok told later area at' (Err fault) same is gives = tt
 
 -- The journal's start is the place of a piece in every area.

@@ -9,3 +9,4 @@ pub mod OneReading
 pub mod Finds
 pub mod EachReads
 pub mod Images
+pub mod Fresh

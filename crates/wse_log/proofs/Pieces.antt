@@ -3,12 +3,12 @@ use Rattle.std.proofs.Common.{◌≡◌, ◌≢◌, ℕ, ◌+◌, ◌-◌, ◌<�
 use Rattle.std.specs.List.{All}
 use Rattle.std.proofs.lemmas.List.{length_push}
 use Rattle.std.proofs.lemmas.List.Elements.{All-nil, All-push}
-use Rattle.wse_log.specs.Grammar.{Record, HasShortBody, EndSettled, header, open_gate, settled_byte, framed, behind_gate, front, BeginsWith, EndsClosed, BeginWithNoRecord, BreaksAt, NoGate, NeverOpened, NotWhole, FirstUnsettled, Unsettled}
+use Rattle.wse_log.specs.Grammar.{JournalRecord, HasShortBody, EndSettled, header, open_gate, settled_byte, framed, behind_gate, front, BeginsWith, EndsClosed, BeginWithNoRecord, BreaksAt, NoGate, NeverOpened, NotWhole, FirstUnsettled, Unsettled}
 use Rattle.wse_log.proofs.Fronts.{front-nil, front-push, length-front-push, length-front-le, stretch-some, stretch-push, with_last}
 use Rattle.wse_log.proofs.Places.{byte_and_rest, ends_behind, mark_before}
 
 -- A whole record stands behind the open gate.
-pub holds : (area : List ℕ) (before : List Record) (r : Record) (rest more : List ℕ) → All HasShortBody (before ++ r ∷ []) → area ≡ front before ++ open_gate ∷ rest → rest ≡ behind_gate r ++ more → BeginsWith area (before ++ r ∷ [])
+pub holds : (area : List ℕ) (before : List JournalRecord) (r : JournalRecord) (rest more : List ℕ) → All HasShortBody (before ++ r ∷ []) → area ≡ front before ++ open_gate ∷ rest → rest ≡ behind_gate r ++ more → BeginsWith area (before ++ r ∷ [])
 holds area before r rest more short is whole = record {
   short = short;
   rest = more;
@@ -19,15 +19,15 @@ holds area before r rest more short is whole = record {
 }
 
 -- The gate's byte is this one.
-pub with_gate : (area : List ℕ) (before : List Record) (rest : List ℕ) (byte : ℕ) → area ≡ front before ++ rest → length (front before) < length area → get_or area (length (front before)) 0 ≡ byte → area ≡ front before ++ byte ∷ drop (length (front before) + 1) area
+pub with_gate : (area : List ℕ) (before : List JournalRecord) (rest : List ℕ) (byte : ℕ) → area ≡ front before ++ rest → length (front before) < length area → get_or area (length (front before)) 0 ≡ byte → area ≡ front before ++ byte ∷ drop (length (front before) + 1) area
 with_gate area before rest byte is within same = byte_and_rest area before rest is within ∙ ap (λ (b : ℕ). front before ++ b ∷ drop (length (front before) + 1) area) same
 
-pub missing : (area : List ℕ) (before : List Record) (rest : List ℕ) → area ≡ front before ++ rest → length area ≤ length (front before) → BreaksAt area before (length (front before))
+pub missing : (area : List ℕ) (before : List JournalRecord) (rest : List ℕ) → area ≡ front before ++ rest → length area ≤ length (front before) → BreaksAt area before (length (front before))
 missing area before rest is short =
     let whole = ends_behind area before rest is short in
     NoGate whole (sym (ap length whole))
 
-pub cut_off : (area : List ℕ) (before : List Record) → EndSettled before → area ≡ front before ++ open_gate ∷ drop (length (front before) + 1) area → BeginWithNoRecord (drop (length (front before) + 1) area) → BreaksAt area before (length (front before))
+pub cut_off : (area : List ℕ) (before : List JournalRecord) → EndSettled before → area ≡ front before ++ open_gate ∷ drop (length (front before) + 1) area → BeginWithNoRecord (drop (length (front before) + 1) area) → BreaksAt area before (length (front before))
 cut_off area before settled is none = NotWhole (drop (length (front before) + 1) area) settled is none refl
 
 -- The first piece.
@@ -60,19 +60,19 @@ module _ (area tail : List ℕ) (is : area ≡ header ++ tail) where
       let P : ℕ → Type 0 = λ n. area ≡ front [] ++ open_gate ∷ drop (n + 1) area → BeginWithNoRecord (drop (n + 1) area) → BreaksAt area [] n in
       subst P eight (cut_off area [] none_last) (opened_first within same) none
 
-  pub first_unsettled : (r : Record) (more : List ℕ) → 8 < length area → get_or area 8 0 ≡ open_gate → drop 9 area ≡ behind_gate r ++ more → HasShortBody r → (r.mark ≡ settled_byte → ⊥) → BreaksAt area [] (13 + length r.body)
+  pub first_unsettled : (r : JournalRecord) (more : List ℕ) → 8 < length area → get_or area 8 0 ≡ open_gate → drop 9 area ≡ behind_gate r ++ more → HasShortBody r → (r.mark ≡ settled_byte → ⊥) → BreaksAt area [] (13 + length r.body)
   first_unsettled r more within same whole short unsettled =
       FirstUnsettled r more refl short
       (opened_first within same ∙ ap (λ (l : List ℕ). front [] ++ open_gate ∷ l) whole ∙ sym (append_assoc (front []) (framed r) more) ∙ ap (λ (l : List ℕ). l ++ more) (sym (front-push [] r)))
       unsettled
       (omega (arith, length-front-push [] r, eight))
 
-  pub first_holds : (r : Record) (more : List ℕ) → 8 < length area → get_or area 8 0 ≡ open_gate → drop 9 area ≡ behind_gate r ++ more → HasShortBody r → BeginsWith area ([] ++ r ∷ [])
+  pub first_holds : (r : JournalRecord) (more : List ℕ) → 8 < length area → get_or area 8 0 ≡ open_gate → drop 9 area ≡ behind_gate r ++ more → HasShortBody r → BeginsWith area ([] ++ r ∷ [])
   first_holds r more within same whole short =
       holds area [] r (drop 9 area) more (All-push HasShortBody [] r (All-nil HasShortBody) short) (opened_first within same) whole
 
 -- A later piece.
-module _ (area : List ℕ) (before : List Record) (begins : BeginsWith area before) (some : before ≢ []) where
+module _ (area : List ℕ) (before : List JournalRecord) (begins : BeginsWith area before) (some : before ≢ []) where
   goes_on : area ≡ front before ++ begins.rest
   goes_on = begins.spelled ∙ ap (λ (l : List ℕ). l ++ begins.rest) (stretch-some before some)
 
@@ -90,10 +90,10 @@ module _ (area : List ℕ) (before : List Record) (begins : BeginsWith area befo
   }
 
   -- The byte in front of the gate is the last record's mark.
-  mark_is : (others : List Record) (r : Record) → before ≡ others ++ r ∷ [] → get_or area (length (front before) - 1) 0 ≡ r.mark
+  mark_is : (others : List JournalRecord) (r : JournalRecord) → before ≡ others ++ r ∷ [] → get_or area (length (front before) - 1) 0 ≡ r.mark
   mark_is others r is =
-      let spelled : area ≡ front (others ++ r ∷ []) ++ begins.rest = goes_on ∙ ap (λ (l : List Record). front l ++ begins.rest) is in
-      ap (λ (l : List Record). get_or area (length (front l) - 1) 0) is ∙ mark_before area others r begins.rest spelled
+      let spelled : area ≡ front (others ++ r ∷ []) ++ begins.rest = goes_on ∙ ap (λ (l : List JournalRecord). front l ++ begins.rest) is in
+      ap (λ (l : List JournalRecord). get_or area (length (front l) - 1) 0) is ∙ mark_before area others r begins.rest spelled
 
   pub later_unsettled : length (front before) < length area → get_or area (length (front before)) 0 ≡ open_gate → (get_or area (length (front before) - 1) 0 ≡ settled_byte → ⊥) → BreaksAt area before (length (front before) - 1)
   later_unsettled within same unsettled =
@@ -107,6 +107,6 @@ module _ (area : List ℕ) (before : List Record) (begins : BeginsWith area befo
   pub later_cut : length (front before) < length area → get_or area (length (front before)) 0 ≡ open_gate → get_or area (length (front before) - 1) 0 ≡ settled_byte → BeginWithNoRecord (drop (length (front before) + 1) area) → BreaksAt area before (length (front before))
   later_cut within same settled none = cut_off area before (end_settled settled) (with_gate area before begins.rest open_gate goes_on within same) none
 
-  pub later_holds : (r : Record) (more : List ℕ) → length (front before) < length area → get_or area (length (front before)) 0 ≡ open_gate → drop (length (front before) + 1) area ≡ behind_gate r ++ more → HasShortBody r → BeginsWith area (before ++ r ∷ [])
+  pub later_holds : (r : JournalRecord) (more : List ℕ) → length (front before) < length area → get_or area (length (front before)) 0 ≡ open_gate → drop (length (front before) + 1) area ≡ behind_gate r ++ more → HasShortBody r → BeginsWith area (before ++ r ∷ [])
   later_holds r more within same whole short =
       holds area before r (drop (length (front before) + 1) area) more (All-push HasShortBody before r begins.short short) (with_gate area before begins.rest open_gate goes_on within same) whole

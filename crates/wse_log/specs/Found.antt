@@ -7,7 +7,7 @@ use Rattle.wse_disk.specs.Told.{WhereTold}
 use Rattle.wse_log.specs.declared.record.Found.{Found}
 use Rattle.wse_log.specs.declared.step.ScanFault.{ScanFault}
 use Rattle.wse_log.specs.declared.step.ScanFault.TheVariants.{NotALog, Disk, Memory}
-use Rattle.wse_log.specs.Grammar.{Record, header, open_gate, settled_byte, behind_gate, FailsHeader, BeginWithNoRecord}
+use Rattle.wse_log.specs.Grammar.{JournalRecord, header, open_gate, settled_byte, behind_gate, FailsHeader, BeginWithNoRecord}
 
 -- The first place where the bytes fail the header, or none.
 abbrev pub FindsHeader : List ℕ → Option ℕ → Type 0
@@ -37,7 +37,7 @@ FindsMark bytes place (Err Memory) = ⊤
 abbrev pub ReadsMark : {T : Type 0} → Option Standing → Area → ℕ → Result T ScanFault → Type 0
 ReadsMark told area place result = WhereTold told (λ s. FindsMark (area_of area s.reading) place result)
 
-abbrev pub record_of : Found → Record
+abbrev pub record_of : Found → JournalRecord
 record_of found = record { body = found.body; mark = found.mark }
 
 -- Behind the gate stands this record, or none.

@@ -8,7 +8,7 @@ use Rattle.wse_log.specs.declared.step.Step.{Step}
 use Rattle.wse_log.specs.declared.step.Step.TheVariants.{Entry, End}
 use Rattle.wse_log.specs.declared.step.ScanFault.{ScanFault}
 use Rattle.wse_log.specs.declared.step.ScanFault.TheVariants.{NotALog, Disk, Memory}
-use Rattle.wse_log.specs.Grammar.{Record, header, settled_byte, front, stretch, EndSettled, BeginsWith, EndsClosed, BreaksAt, Ending, ClosedAt, BrokenAt, Reads}
+use Rattle.wse_log.specs.Grammar.{JournalRecord, header, settled_byte, front, stretch, EndSettled, BeginsWith, EndsClosed, BreaksAt, JournalEnd, ClosedAt, BrokenAt, Reads}
 
 -- The record behind the gate at that place.
 abbrev pub entry_of : ℕ → List ℕ → ℕ → Step
@@ -16,14 +16,14 @@ entry_of gate body mark = Entry body gate (mark == settled_byte) (gate + 6 + len
 
 -- The area begins with some records, and the place is that of the piece behind them: 0 behind none, else that of a gate.
 abbrev pub IsPieceOf : List ℕ → ℕ → Type 0
-IsPieceOf area place = (before : List Record) × BeginsWith area before × (place ≡ length (stretch before))
+IsPieceOf area place = (before : List JournalRecord) × BeginsWith area before × (place ≡ length (stretch before))
 
 abbrev pub IsAtPiece : Option Standing → Area → ℕ → Type 0
 IsAtPiece told area place = WhereTold told (λ s. IsPieceOf (area_of area s.reading) place)
 
 -- The answer says what stands behind these records: one record more, where the one in front of it is settled, or itself if
 -- it is the first; a closed gate; or that the area is no journal, and where.
-abbrev pub IsPieceBehind : List ℕ → List Record → Result Step ScanFault → Type 0
+abbrev pub IsPieceBehind : List ℕ → List JournalRecord → Result Step ScanFault → Type 0
 IsPieceBehind area before (Ok (Entry body gate settled next)) =
     (mark : ℕ) × BeginsWith area (before ++ record { body = body; mark = mark } ∷ []) × EndSettled before × (before ≡ [] → mark ≡ settled_byte)
     × (Entry body gate settled next ≡ entry_of (length (front before)) body mark)
@@ -33,10 +33,10 @@ IsPieceBehind area before (Err Disk) = ⊤
 IsPieceBehind area before (Err Memory) = ⊤
 
 abbrev pub GivesPiece : Option Standing → Area → ℕ → Result Step ScanFault → Type 0
-GivesPiece told area place result = WhereTold told (λ s. (before : List Record) → BeginsWith (area_of area s.reading) before → place ≡ length (stretch before) → IsPieceBehind (area_of area s.reading) before result)
+GivesPiece told area place result = WhereTold told (λ s. (before : List JournalRecord) → BeginsWith (area_of area s.reading) before → place ≡ length (stretch before) → IsPieceBehind (area_of area s.reading) before result)
 
 -- The answer behind the first records of an area that has these other records and then ends so.
-abbrev pub answer_behind : List Record → List Record → Ending → Result Step ScanFault
+abbrev pub answer_behind : List JournalRecord → List JournalRecord → JournalEnd → Result Step ScanFault
 answer_behind before (r ∷ others) ending = Ok (entry_of (length (front before)) r.body r.mark)
 answer_behind before [] (ClosedAt gate) = Ok (End gate)
 answer_behind before [] (BrokenAt place) = Err (NotALog place)
@@ -49,7 +49,7 @@ IsUnlessFault (Err Disk) expected = ⊤
 IsUnlessFault (Err Memory) expected = ⊤
 
 abbrev pub GivesInOrder : Option Standing → Area → ℕ → Result Step ScanFault → Type 0
-GivesInOrder told area place result = WhereTold told (λ s. (before after : List Record) (ending : Ending) → Reads (area_of area s.reading) (before ++ after) ending → place ≡ length (stretch before) → IsUnlessFault result (answer_behind before after ending))
+GivesInOrder told area place result = WhereTold told (λ s. (before after : List JournalRecord) (ending : JournalEnd) → Reads (area_of area s.reading) (before ++ after) ending → place ≡ length (stretch before) → IsUnlessFault result (answer_behind before after ending))
 
 -- Where the gate of the piece at that place stands.
 abbrev pub gate_of : ℕ → ℕ
@@ -65,5 +65,5 @@ abbrev pub place_after : Step → ℕ
 place_after (Entry body gate settled next) = next
 place_after (End gate) = gate
 
-abbrev pub GoesOn : Option Standing → Area → Step → Type 0
-GoesOn told area step = IsAtPiece told area (place_after step)
+abbrev pub CanScanOn : Option Standing → Area → Step → Type 0
+CanScanOn told area step = IsAtPiece told area (place_after step)

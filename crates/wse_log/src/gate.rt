@@ -4,12 +4,10 @@ ghost use Rattle.wse_disk.specs.Calls.{ReadsLength};
 ghost use Rattle.wse_log.specs.Reads.{HasScanCause};
 ghost use Rattle.wse_log.specs.Found.{ReadsGate, ReadsMark};
 
+use crate::format::{OPEN_GATE, SETTLED};
 use crate::reads::byte_at;
-use crate::record::SETTLED;
 use crate::step::ScanFault;
 use wse_disk::{Area, Disk};
-
-const OPEN_GATE: u8 = 0xA5;
 
 /// Whether the gate at that place is open, in an area of `len` bytes. A gate that is missing is `NotALog`.
 pub fn is_open<D: Disk>(disk: &mut D, area: Area, len: u64, at: u64) -> Result<bool, ScanFault>

@@ -5,9 +5,8 @@ ghost use Rattle.wse_disk.specs.Calls.{ReadsLength};
 ghost use Rattle.wse_log.specs.Grammar.{header, FailsHeader};
 ghost use Rattle.wse_log.specs.Found.{ReadsHeader};
 
+use crate::format::HEADER;
 use wse_disk::{Area, Disk, Failed};
-
-const HEADER: [u8; 8] = *b"WSELOG01";
 
 // The first place at which the bytes, at most eight, differ from the header or end. None where they are the header.
 fn fault_in(bytes: &[u8]) -> Option<u64>

@@ -3,7 +3,7 @@ ghost use Rattle.std.specs.Prelude.{◌≡◌, ◌≤◌, ◌<◌, ◌+◌, ◌^
 ghost use Rattle.wse_disk.specs.Calls.{ReadsLength};
 ghost use Rattle.wse_log.specs.Reads.{HasScanCause};
 ghost use Rattle.wse_log.specs.Found.{ReadsHeader};
-ghost use Rattle.wse_log.specs.Scan.{IsAtPiece, GivesPiece, GivesInOrder, GoesOn, LiesAt, entry_of};
+ghost use Rattle.wse_log.specs.Scan.{IsAtPiece, GivesPiece, GivesInOrder, CanScanOn, LiesAt, entry_of};
 
 use crate::gate::{check_settled, is_open};
 use crate::header::header_fault;
@@ -106,7 +106,7 @@ pub fn scan<D: Disk>(alloc: Global, disk: &mut D, area: Area, at: u64) -> Result
     requires { IsAtPiece (D.told disk.old) area at }
     ensures piece { GivesPiece (D.told disk.old) area at result }
     ensures in_order { GivesInOrder (D.told disk.old) area at result }
-    ensures goes_on { IfOk result (GoesOn (D.told disk.new) area) }
+    ensures goes_on { IfOk result (CanScanOn (D.told disk.new) area) }
     ensures places { IfOk result (LiesAt at) }
     ensures same { D.told disk.new ≡ D.told disk.old }
     ensures later { D.moment_of disk.old ≤ D.moment_of disk.new }

@@ -5,14 +5,12 @@ ghost use Rattle.wse_disk.specs.Calls.{ReadsLength, HasPart};
 ghost use Rattle.wse_log.specs.Reads.{ReadsNumber, HasScanCause};
 ghost use Rattle.wse_log.specs.Found.{ReadsRecord};
 
+use crate::format::SETTLED;
 use crate::reads::{byte_at, bytes_at, number_at};
 use crate::step::ScanFault;
 use std::alloc::Global;
 use wse_disk::{Area, Disk, Failed};
 use wse_path::Bytes;
-
-/// The byte behind the body of a record that is settled.
-pub const SETTLED: u8 = 0x5A;
 
 /// A body, and the byte behind it.
 #[derive(Drop)]

@@ -1,5 +1,10 @@
 pub mod Writing
 pub mod ToldSteps
+pub mod SetLemmas
+pub mod ReplayLemmas
+pub mod ReplaySteps
+pub mod OneState
 pub mod TwoStates
 pub mod Together
+pub mod WriteLemmas
 pub mod Results

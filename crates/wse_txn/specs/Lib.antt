@@ -3,4 +3,8 @@ pub mod Images
 pub mod States
 pub mod Outcomes
 pub mod Steps
+pub mod Replay
+pub mod Stands
+pub mod Command
+pub mod Replaying
 pub mod Laws

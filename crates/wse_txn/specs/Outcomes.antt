@@ -3,6 +3,7 @@ use Rattle.std.specs.Prelude.{◌≡◌, ℕ, ◌≤◌, Result, Option, MatchRe
 use Rattle.wse_path.specs.Causes.{Rose}
 use Rattle.wse_disk.specs.Reading.{Reading}
 use Rattle.wse_disk.specs.Standing.{Standing}
+use Rattle.wse_disk.specs.Told.{IsTold}
 use Rattle.wse_disk.specs.LeavesOnly.{LeavesOnly}
 
 -- A step fails only where the count of faults rose in it, and else the count is as it was.
@@ -12,8 +13,8 @@ FailsByFault faults disk_of old result = MatchResult result
     (λ broken. Rose (faults old) (faults broken))
 
 -- Whether it fails or not, no moment is lost.
-abbrev pub GoesOn : {D A : Type 0} → (D → ℕ) → (A → D) → D → Result A D → Type 0
-GoesOn moment_of disk_of old result = MatchResult result
+abbrev pub KeepsMoments : {D A : Type 0} → (D → ℕ) → (A → D) → D → Result A D → Type 0
+KeepsMoments moment_of disk_of old result = MatchResult result
     (λ next. moment_of old ≤ moment_of (disk_of next))
     (λ broken. moment_of old ≤ moment_of broken)
 
@@ -22,3 +23,8 @@ abbrev pub Leaves : {D A : Type 0} → (D → Option Standing) → (A → D) →
 Leaves told disk_of old result P = MatchResult result
     (λ next. LeavesOnly (told old) (told (disk_of next)) P)
     (λ broken. LeavesOnly (told old) (told broken) P)
+
+-- The disk tells what it holds where it told before, and nowhere else.
+pub record TellsAsBefore (old new : Option Standing) : Type 0 where
+  pub on : IsTold old → IsTold new
+  pub back : IsTold new → IsTold old

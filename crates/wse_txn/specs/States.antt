@@ -43,7 +43,7 @@ pub record IsDrafted (told : Option Standing) (area : Area) (gate : ℕ) (plan :
   pub tree : LeadsToTree told plan.changes
 
 -- Nothing is pending, and the plan's record stands in the journal, not settled.
-pub record IsWritten (told : Option Standing) (area : Area) (gate : ℕ) (plan : Plan) : Type 0 where
+pub record StandsUnsettled (told : Option Standing) (area : Area) (gate : ℕ) (plan : Plan) : Type 0 where
   pub synced : IsSynced told
   pub journal : HasUnsettledJournal told area (body_of plan) gate
   pub some : 0 < gate
@@ -51,5 +51,5 @@ pub record IsWritten (told : Option Standing) (area : Area) (gate : ℕ) (plan :
 
 -- So it is, and the tree isn't changed yet.
 pub record IsSealedFor (told : Option Standing) (area : Area) (gate : ℕ) (plan : Plan) : Type 0 where
-  pub written : IsWritten told area gate plan
+  pub written : StandsUnsettled told area gate plan
   pub tree : LeadsToTree told plan.changes

@@ -2,12 +2,12 @@
 ghost use Rattle.std.specs.Prelude.{◌≡◌, ◌<◌, ◌^◌, List, IfOk};
 ghost use Rattle.wse_element.specs.declared.plan.Plan.{Plan as PlanValue};
 ghost use Rattle.wse_disk.specs.Told.{IsSynced, reading_of, bytes_of_area};
-ghost use Rattle.wse_log.specs.Grammar.{Record};
+ghost use Rattle.wse_log.specs.Grammar.{JournalRecord};
 ghost use Rattle.wse_log.specs.Writing.{next_gate};
 ghost use Rattle.wse_txn.specs.Journal.{IsSettledJournal};
 ghost use Rattle.wse_txn.specs.Images.{IsSealing, IsSealed};
 ghost use Rattle.wse_txn.specs.States.{IsDrafted, body_of};
-ghost use Rattle.wse_txn.specs.Outcomes.{FailsByFault, GoesOn, Leaves};
+ghost use Rattle.wse_txn.specs.Outcomes.{FailsByFault, KeepsMoments, Leaves, TellsAsBefore};
 
 use crate::broken::Broken;
 use crate::sealed::Sealed;
@@ -56,15 +56,16 @@ impl<D: Disk> Drafted<D> {
     /// A crash at any moment leaves the old files, and in the journal the old records, or these and the new one, which isn't
     /// settled. This project's own rule.
     pub fn seal(self) -> Result<Sealed<D>, Broken<D>>
-        ensures during { (records : List Record) → IsSettledJournal (bytes_of_area self.area (D.told self.disk)) records self.gate
+        ensures during { (records : List JournalRecord) → IsSettledJournal (bytes_of_area self.area (D.told self.disk)) records self.gate
             → Leaves D.told (λ sealed. sealed.disk) self.disk result
             (IsSealing self.area records self.gate (body_of self.plan) (reading_of (D.told self.disk))) }
-        ensures sealed { (records : List Record) → IsSettledJournal (bytes_of_area self.area (D.told self.disk)) records self.gate
+        ensures sealed { (records : List JournalRecord) → IsSettledJournal (bytes_of_area self.area (D.told self.disk)) records self.gate
             → IfOk result (λ sealed. IsSealed self.area records self.gate (body_of self.plan) (reading_of (D.told self.disk)) (reading_of (D.told sealed.disk))) }
         ensures synced { IfOk result (λ sealed. IsSynced (D.told sealed.disk)) }
+        ensures tells { IfOk result (λ sealed. TellsAsBefore (D.told self.disk) (D.told sealed.disk)) }
         ensures gate { IfOk result (λ sealed. sealed.gate ≡ next_gate self.gate (body_of self.plan)) }
         ensures same { IfOk result (λ sealed. (sealed.area ≡ self.area) × (sealed.plan ≡ self.plan)) }
-        ensures later { GoesOn D.moment_of (λ sealed. sealed.disk) self.disk result }
+        ensures later { KeepsMoments D.moment_of (λ sealed. sealed.disk) self.disk result }
         ensures cause { FailsByFault D.faults (λ sealed. sealed.disk) self.disk result }
     {
         let Drafted {
@@ -75,7 +76,7 @@ impl<D: Disk> Drafted<D> {
             staged,
         } = self;
         match write_record(&mut disk, area, gate, staged.as_slice()) {
-            Ok(()) => Ok(Sealed::new(disk, area, gate + staged.len() as u64, plan)),
+            Ok(()) => Ok(Sealed::at(disk, area, gate + staged.len() as u64, plan)),
             Err(_) => Err(Broken::new(disk)),
         }
     }

@@ -1,20 +1,20 @@
 // A disk at rest.
-ghost use Rattle.std.specs.Prelude.{◌≡◌, ◌<◌, ◌^◌, IfOk, IfErr};
+ghost use Rattle.std.specs.Prelude.{◌≡◌, ◌<◌, ◌^◌, IfOk, IfErr, OnOk};
 ghost use Rattle.wse_disk.specs.Told.{IsAtRest};
 ghost use Rattle.wse_disk.specs.Changes.{LeadsToTree};
-ghost use Rattle.wse_codec.specs.Allowed.{IsSpellable};
+ghost use Rattle.wse_codec.specs.Allowed.{IsSpellable, IsAllowedRecord};
 ghost use Rattle.wse_txn.specs.Journal.{HasSettledJournal};
 ghost use Rattle.wse_log.specs.Writing.{staging};
 ghost use Rattle.wse_txn.specs.States.{working, body_of};
 ghost use Rattle.wse_txn.specs.declared.idle.DraftRefused.TheVariants.{Memory as WantsMemory};
 
 use crate::drafted::Drafted;
-use crate::stage::staged;
 use std::alloc::Global;
 use std::marker::Model;
 use wse_codec::write_record;
 use wse_disk::{Area, Disk};
 use wse_element::Plan;
+use wse_log::staged_record;
 use wse_path::Memory;
 
 /// A disk on which nothing is pending, with a journal whose records are all settled. It owns the disk. Contracts see it as
@@ -44,10 +44,11 @@ pub enum DraftRefused<D: Disk> {
 // The record of a plan, as it is written.
 fn spelled(alloc: Global, plan: &Plan) -> Result<Vec<u8>, Memory>
     requires { IsSpellable plan.now.effects }
-    ensures { IfOk result (λ bytes. bytes.items ≡ staging (body_of plan.now)) }
+    ensures spelled { IfOk result (λ bytes. bytes.items ≡ staging (body_of plan.now)) }
+    ensures allowed { OnOk result (IsAllowedRecord plan.now.effects) }
 {
     let body = write_record(alloc, plan.effects.as_slice())?;
-    staged(alloc, body.as_slice())
+    staged_record(alloc, body.as_slice())
 }
 
 impl<D: Disk> Idle<D> {
@@ -87,6 +88,7 @@ impl<D: Disk> Idle<D> {
         requires spellable { IsSpellable plan.effects }
         requires tree { LeadsToTree (D.told self.disk) plan.changes }
         ensures drafted { IfOk result (λ drafted. drafted ≡ working self plan) }
+        ensures allowed { OnOk result (IsAllowedRecord plan.effects) }
         ensures back { IfErr result (λ refused. refused ≡ WantsMemory self) }
     {
         match spelled(alloc, &plan) {

@@ -1,10 +1,13 @@
-// What the calls leave together.
-ghost use Rattle.wse_txn.specs.Laws.{WritingLeavesTwoStates, ChangingLeavesTwoStates, ClosingLeavesTwoStates};
+// What holds of the definitions.
+ghost use Rattle.wse_txn.specs.Laws.{CommandIsWhole, ImagesStandForOne};
 
-/// From the start of `seal` up to the end of `close` a crash leaves one of two states: the old records and files, or one
-/// record more and the files with its changes. It is so too where one of the three calls fails.
-pub fn a_record_is_there_whole_or_not_at_all()
-    ensures writing { WritingLeavesTwoStates }
-    ensures changing { ChangingLeavesTwoStates }
-    ensures closing { ClosingLeavesTwoStates }
+/// An image stands for one state, whatever the locks, or it is no store, and that in one place.
+pub fn an_image_stands_for_one_state()
+    ensures { ImagesStandForOne }
+{}
+
+/// A command is on the disk whole or not at all: from the start of `seal` up to the end of `close`, where one of the calls
+/// fails too, a crash leaves a disk that stands for the state before the command or for the one after it.
+pub fn a_command_is_whole()
+    ensures { CommandIsWhole }
 {}

@@ -2,15 +2,16 @@
 #![tactic(auto)]
 
 mod broken;
+mod command;
 mod drafted;
 mod idle;
 pub mod laws;
 mod sealed;
 mod settled;
-mod stage;
 mod steps;
 
 pub use broken::Broken;
+pub use command::write;
 pub use drafted::Drafted;
 pub use idle::{DraftRefused, Idle};
 pub use sealed::Sealed;

@@ -3,7 +3,7 @@ ghost use Rattle.std.specs.Prelude.{◌≡◌, IfOk};
 ghost use Rattle.wse_disk.specs.Told.{IsSynced, reading_of};
 ghost use Rattle.wse_disk.specs.Changes.{HasChanged, ChangesOnly};
 ghost use Rattle.wse_txn.specs.States.{IsSealedFor};
-ghost use Rattle.wse_txn.specs.Outcomes.{FailsByFault, GoesOn, Leaves};
+ghost use Rattle.wse_txn.specs.Outcomes.{FailsByFault, KeepsMoments, Leaves, TellsAsBefore};
 
 use crate::broken::Broken;
 use crate::settled::Settled;
@@ -31,7 +31,9 @@ impl<D: Disk> Model for Sealed<D> {
 }
 
 impl<D: Disk> Sealed<D> {
-    pub(crate) fn new(disk: D, area: Area, gate: u64, plan: Plan) -> Sealed<D>
+    /// The disk with a journal in the area, whose last record is the plan's and isn't settled, and whose closed gate stands
+    /// at `gate`.
+    pub fn at(disk: D, area: Area, gate: u64, plan: Plan) -> Sealed<D>
         requires { IsSealedFor (D.told disk) area gate plan }
         ensures { result ≡ record { disk = disk; area = area; gate = gate; plan = plan } }
     {
@@ -51,8 +53,9 @@ impl<D: Disk> Sealed<D> {
         ensures during { Leaves D.told (λ settled. settled.disk) self.disk result (ChangesOnly self.plan.changes (reading_of (D.told self.disk))) }
         ensures changed { IfOk result (λ settled. HasChanged self.plan.changes (D.told self.disk) (D.told settled.disk)) }
         ensures synced { IfOk result (λ settled. IsSynced (D.told settled.disk)) }
+        ensures tells { IfOk result (λ settled. TellsAsBefore (D.told self.disk) (D.told settled.disk)) }
         ensures same { IfOk result (λ settled. (settled.area ≡ self.area) × (settled.gate ≡ self.gate) × (settled.plan ≡ self.plan)) }
-        ensures later { GoesOn D.moment_of (λ settled. settled.disk) self.disk result }
+        ensures later { KeepsMoments D.moment_of (λ settled. settled.disk) self.disk result }
         ensures cause { FailsByFault D.faults (λ settled. settled.disk) self.disk result }
     {
         let Sealed {

@@ -1,11 +1,11 @@
 // A record whose changes are made, and which isn't settled yet.
 ghost use Rattle.std.specs.Prelude.{◌≡◌, List, IfOk};
 ghost use Rattle.wse_disk.specs.Told.{IsAtRest, reading_of, bytes_of_area};
-ghost use Rattle.wse_log.specs.Grammar.{Record};
+ghost use Rattle.wse_log.specs.Grammar.{JournalRecord};
 ghost use Rattle.wse_txn.specs.Journal.{IsUnsettledJournal};
 ghost use Rattle.wse_txn.specs.Images.{IsClosing, IsClosed};
-ghost use Rattle.wse_txn.specs.States.{IsWritten, body_of};
-ghost use Rattle.wse_txn.specs.Outcomes.{FailsByFault, GoesOn, Leaves};
+ghost use Rattle.wse_txn.specs.States.{StandsUnsettled, body_of};
+ghost use Rattle.wse_txn.specs.Outcomes.{FailsByFault, KeepsMoments, Leaves, TellsAsBefore};
 
 use crate::broken::Broken;
 use crate::idle::Idle;
@@ -24,18 +24,18 @@ pub struct Settled<D: Disk> {
 }
 
 impl<D: Disk> Model for Settled<D> {
-    ghost use Rattle.wse_txn.specs.States.{Working, IsWritten};
+    ghost use Rattle.wse_txn.specs.States.{Working, StandsUnsettled};
 
     ghost Value = { Working D };
 
     ghost view = { λ a. record { disk = a.disk; area = a.area; gate = a.gate; plan = a.plan } };
 
-    ghost invariant = { λ a. IsWritten (D.told a.disk) a.area a.gate a.plan };
+    ghost invariant = { λ a. StandsUnsettled (D.told a.disk) a.area a.gate a.plan };
 }
 
 impl<D: Disk> Settled<D> {
     pub(crate) fn new(disk: D, area: Area, gate: u64, plan: Plan) -> Settled<D>
-        requires { IsWritten (D.told disk) area gate plan }
+        requires { StandsUnsettled (D.told disk) area gate plan }
         ensures { result ≡ record { disk = disk; area = area; gate = gate; plan = plan } }
     {
         Settled {
@@ -50,14 +50,15 @@ impl<D: Disk> Settled<D> {
     ///
     /// A crash at any moment leaves the files, and the journal's record settled or not.
     pub fn close(self) -> Result<(Idle<D>, Plan), Broken<D>>
-        ensures during { (records : List Record) → IsUnsettledJournal (bytes_of_area self.area (D.told self.disk)) records (body_of self.plan) self.gate
+        ensures during { (records : List JournalRecord) → IsUnsettledJournal (bytes_of_area self.area (D.told self.disk)) records (body_of self.plan) self.gate
             → Leaves D.told (λ closed. closed.0.disk) self.disk result
             (IsClosing self.area records self.gate (body_of self.plan) (reading_of (D.told self.disk))) }
-        ensures closed { (records : List Record) → IsUnsettledJournal (bytes_of_area self.area (D.told self.disk)) records (body_of self.plan) self.gate
+        ensures closed { (records : List JournalRecord) → IsUnsettledJournal (bytes_of_area self.area (D.told self.disk)) records (body_of self.plan) self.gate
             → IfOk result (λ closed. IsClosed self.area records self.gate (body_of self.plan) (reading_of (D.told self.disk)) (reading_of (D.told closed.0.disk))) }
         ensures rests { IfOk result (λ closed. IsAtRest (D.told closed.0.disk)) }
+        ensures tells { IfOk result (λ closed. TellsAsBefore (D.told self.disk) (D.told closed.0.disk)) }
         ensures same { IfOk result (λ closed. (closed.0.area ≡ self.area) × (closed.0.gate ≡ self.gate) × (closed.1 ≡ self.plan)) }
-        ensures later { GoesOn D.moment_of (λ closed. closed.0.disk) self.disk result }
+        ensures later { KeepsMoments D.moment_of (λ closed. closed.0.disk) self.disk result }
         ensures cause { FailsByFault D.faults (λ closed. closed.0.disk) self.disk result }
     {
         let Settled {

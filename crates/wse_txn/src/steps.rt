@@ -3,19 +3,15 @@ ghost use Rattle.std.specs.Prelude.{◌≡◌, ◌<◌, ◌≤◌, ◌+◌, ◌^
 ghost use Rattle.wse_path.specs.Causes.{HasCause};
 ghost use Rattle.wse_disk.specs.Told.{IsAtRest, IsSynced, reading_of, bytes_of_area};
 ghost use Rattle.wse_disk.specs.LeavesOnly.{LeavesOnly};
-ghost use Rattle.wse_log.specs.Grammar.{Record};
+ghost use Rattle.wse_log.specs.Grammar.{JournalRecord};
 ghost use Rattle.wse_log.specs.Writing.{staging};
 ghost use Rattle.wse_txn.specs.Journal.{IsSettledJournal, IsUnsettledJournal, HasSettledJournal, HasUnsettledJournal, HasGate};
 ghost use Rattle.wse_txn.specs.Images.{IsSealing, IsSealed, IsClosing, IsClosed};
+ghost use Rattle.wse_txn.specs.Outcomes.{TellsAsBefore};
 ghost use Rattle.wse_txn.specs.Steps.{IsStagedFor, HasSealed};
 
 use wse_disk::{Area, Disk, Failed, write_synced};
-
-// A gate is open only as this byte.
-const OPEN_GATE: u8 = 0xA5;
-
-// A record is settled only with this byte behind its body.
-const SETTLED: u8 = 0x5A;
+use wse_log::{OPEN_GATE, SETTLED};
 
 /// Writes a record behind the closed gate, and then opens the gate.
 #[tactic(auto, using(crate::proofs::ToldSteps::behind_gate_patchable, crate::proofs::ToldSteps::gate_patchable))]
@@ -28,15 +24,16 @@ pub fn write_record<D: Disk>(
     requires some { 0 < length staged.now }
     requires gate { HasGate (D.told disk.old) area gate }
     requires small { gate < 2 ^ 63 }
-    ensures during { IsAtRest (D.told disk.old) → (records : List Record) (body : List ℕ)
+    ensures during { IsAtRest (D.told disk.old) → (records : List JournalRecord) (body : List ℕ)
         → IsSettledJournal (bytes_of_area area (D.told disk.old)) records gate → IsStagedFor body staged.now
         → LeavesOnly (D.told disk.old) (D.told disk.new) (IsSealing area records gate body (reading_of (D.told disk.old))) }
-    ensures sealed { (records : List Record) (body : List ℕ)
+    ensures sealed { (records : List JournalRecord) (body : List ℕ)
         → IsSettledJournal (bytes_of_area area (D.told disk.old)) records gate → IsStagedFor body staged.now
         → OnOk result (IsSealed area records gate body (reading_of (D.told disk.old)) (reading_of (D.told disk.new))) }
     ensures journal { (body : List ℕ) → HasSettledJournal (D.told disk.old) area gate → IsStagedFor body staged.now
         → OnOk result (HasSealed area gate body (D.told disk.old) (D.told disk.new)) }
     ensures synced { OnOk result (IsSynced (D.told disk.new)) }
+    ensures tells { OnOk result (TellsAsBefore (D.told disk.old) (D.told disk.new)) }
     ensures bounded { OnOk result (gate + 1 + length staged.now ≤ 2 ^ 63) }
     ensures later { D.moment_of disk.old ≤ D.moment_of disk.new }
     ensures cause { HasCause (D.faults disk.old) (D.faults disk.new) result }
@@ -49,15 +46,16 @@ pub fn write_record<D: Disk>(
 pub fn settle_record<D: Disk>(disk: &mut D, area: Area, gate: u64) -> Result<(), Failed>
     requires gate { HasGate (D.told disk.old) area gate }
     requires some { 0 < gate }
-    ensures during { IsAtRest (D.told disk.old) → (records : List Record) (body : List ℕ)
+    ensures during { IsAtRest (D.told disk.old) → (records : List JournalRecord) (body : List ℕ)
         → IsUnsettledJournal (bytes_of_area area (D.told disk.old)) records body gate
         → LeavesOnly (D.told disk.old) (D.told disk.new) (IsClosing area records gate body (reading_of (D.told disk.old))) }
-    ensures closed { (records : List Record) (body : List ℕ)
+    ensures closed { (records : List JournalRecord) (body : List ℕ)
         → IsUnsettledJournal (bytes_of_area area (D.told disk.old)) records body gate
         → OnOk result (IsClosed area records gate body (reading_of (D.told disk.old)) (reading_of (D.told disk.new))) }
     ensures journal { (body : List ℕ) → HasUnsettledJournal (D.told disk.old) area body gate
         → OnOk result (HasSettledJournal (D.told disk.new) area gate) }
     ensures rests { OnOk result (IsAtRest (D.told disk.new)) }
+    ensures tells { OnOk result (TellsAsBefore (D.told disk.old) (D.told disk.new)) }
     ensures later { D.moment_of disk.old ≤ D.moment_of disk.new }
     ensures cause { HasCause (D.faults disk.old) (D.faults disk.new) result }
 {

@@ -2,7 +2,7 @@ use Rattle.std.proofs.Common.{◌-◌, [], ◌∷◌, arith}
 use Rattle.wse_disk.specs.Reading.Write.{Patches}
 use Rattle.wse_disk.specs.Image.{IsTorn}
 use Rattle.wse_disk.specs.Told.{reading_of}
-use Rattle.wse_disk.specs.Calls.{HasWritten}
+use Rattle.wse_disk.specs.Calls.{HasApplied}
 use Rattle.wse_disk.proofs.Moments.{weaker}
 use Rattle.wse_log.specs.Grammar.{settled_byte}
 use Rattle.wse_txn.specs.Journal.{HasSettledJournal}
@@ -30,7 +30,7 @@ returns-clause-closed g c records body is =
     let old = g.D.Disk.told c.args.disk.now in
     let new = g.D.Disk.told c.write_synced.new.disk in
     let w = Patches a (gate - 1) (settled_byte ∷ []) in
-    ok_then c.write_synced.result (HasWritten w old new) (IsClosed a records gate body (reading_of old) (reading_of new))
+    ok_then c.write_synced.result (HasApplied w old new) (IsClosed a records gate body (reading_of old) (reading_of new))
     (λ wrote. record_settled a records gate body (reading_of old) is (reading_of new) (written_told w old new (told_by_journal a old _ gate is.journal) wrote)) c.write_synced.ensures.written
 
 pub returns-clause-journal : goal.returns-clause-journal
@@ -39,5 +39,5 @@ returns-clause-journal g c body has =
     let gate = c.args.gate in
     let old = g.D.Disk.told c.args.disk.now in
     let new = g.D.Disk.told c.write_synced.new.disk in
-    ok_then c.write_synced.result (HasWritten (Patches a (gate - 1) (settled_byte ∷ [])) old new) (HasSettledJournal new a gate)
+    ok_then c.write_synced.result (HasApplied (Patches a (gate - 1) (settled_byte ∷ [])) old new) (HasSettledJournal new a gate)
     (has_settled a gate body old new has) c.write_synced.ensures.written

@@ -2,7 +2,7 @@ use Rattle.std.proofs.Common.{ℕ, ◌+◌, List, [], ◌∷◌, length, subst}
 use Rattle.wse_disk.specs.Reading.Write.{Patches}
 use Rattle.wse_disk.specs.Image.{IsTorn}
 use Rattle.wse_disk.specs.Told.{reading_of}
-use Rattle.wse_disk.specs.Calls.{HasWritten}
+use Rattle.wse_disk.specs.Calls.{HasApplied}
 use Rattle.wse_disk.proofs.Moments.{joined, weaker}
 use Rattle.wse_log.specs.Grammar.{open_gate}
 use Rattle.wse_log.specs.Writing.{staging}
@@ -30,7 +30,7 @@ returns-clause-during g c rests records body is staged =
     let mid = g.D.Disk.told c.write_synced.new.disk in
     let new = g.D.Disk.told c.write_synced-2.new.disk in
     let P = IsSealing a records gate body (reading_of old) in
-    let wrote = subst (λ (bytes : List ℕ). HasWritten (Patches a (gate + 1) bytes) old mid) staged.spelled c.in_ok-write_synced.ensures.written in
+    let wrote = subst (λ (bytes : List ℕ). HasApplied (Patches a (gate + 1) bytes) old mid) staged.spelled c.in_ok-write_synced.ensures.written in
     let is_mid = written_told (Patches a (gate + 1) (staging body)) old mid (told_by_journal a old records gate is.journal) wrote in
     joined old mid new P
     (weaker old mid (IsTorn a (gate + 1) n (reading_of old)) P (first_image a records gate body (reading_of old) is n) (c.write_synced.ensures.during rests))
@@ -45,8 +45,8 @@ returns-clause-sealed g c records body is staged =
     let new = g.D.Disk.told c.write_synced-2.new.disk in
     let w = Patches a (gate + 1) (staging body) in
     let some = told_by_journal a old records gate is.journal in
-    let wrote = subst (λ (bytes : List ℕ). HasWritten (Patches a (gate + 1) bytes) old mid) staged.spelled c.in_ok-write_synced.ensures.written in
-    ok_then c.write_synced-2.result (HasWritten (Patches a gate (open_gate ∷ [])) mid new) (IsSealed a records gate body (reading_of old) (reading_of new))
+    let wrote = subst (λ (bytes : List ℕ). HasApplied (Patches a (gate + 1) bytes) old mid) staged.spelled c.in_ok-write_synced.ensures.written in
+    ok_then c.write_synced-2.result (HasApplied (Patches a gate (open_gate ∷ [])) mid new) (IsSealed a records gate body (reading_of old) (reading_of new))
     (λ next. record_written a records gate body (reading_of old) is staged.short (reading_of mid) (written_told w old mid some wrote) (reading_of new)
     (written_told (Patches a gate (open_gate ∷ [])) mid new (told_on w old mid some wrote) next))
     c.write_synced-2.ensures.written
@@ -58,6 +58,6 @@ returns-clause-journal g c body has staged =
     let old = g.D.Disk.told c.args.disk.now in
     let mid = g.D.Disk.told c.write_synced.new.disk in
     let new = g.D.Disk.told c.write_synced-2.new.disk in
-    let wrote = subst (λ (bytes : List ℕ). HasWritten (Patches a (gate + 1) bytes) old mid) staged.spelled c.in_ok-write_synced.ensures.written in
-    ok_then c.write_synced-2.result (HasWritten (Patches a gate (open_gate ∷ [])) mid new) (HasSealed a gate body old new)
+    let wrote = subst (λ (bytes : List ℕ). HasApplied (Patches a (gate + 1) bytes) old mid) staged.spelled c.in_ok-write_synced.ensures.written in
+    ok_then c.write_synced-2.result (HasApplied (Patches a gate (open_gate ∷ [])) mid new) (HasSealed a gate body old new)
     (has_sealed a gate body old mid new staged.short has wrote) c.write_synced-2.ensures.written
