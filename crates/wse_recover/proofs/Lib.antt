@@ -1,0 +1,4 @@
+pub mod MeasureLemmas
+pub mod VersionLemmas
+pub mod FirstLemmas
+pub mod InitLemmas

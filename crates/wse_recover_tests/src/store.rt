@@ -1,0 +1,46 @@
+// Disks of the worked rows.
+use crate::quiet::Quiet;
+use std::alloc::Global;
+use std::test::Fail;
+use wse_disk::MemDisk;
+use wse_path::{Bytes, RelPath, Tree};
+
+/// The bytes that stand there in pairs of digits.
+pub fn bytes(alloc: Global, text: &str) -> Result<Vec<u8>, Fail> {
+    let mut all = Vec::new(alloc);
+    for pair in text.split(' ') {
+        all.push(u8::from_str_radix(pair, 16)?)?;
+    }
+    Ok(all)
+}
+
+/// The path of one segment.
+pub fn path(alloc: Global, name: &str) -> Result<RelPath, Fail> {
+    let mut segments = Vec::new(alloc);
+    segments.push(String::from_str(alloc, name)?)?;
+    Ok(RelPath::new(segments)?)
+}
+
+/// A tree whose files are named by the words, each with its name as content.
+pub fn tree(alloc: Global, names: &str) -> Result<Tree, Fail> {
+    let mut tree = Tree::new(alloc);
+    for name in names.split(' ') {
+        let path = path(alloc, name)?;
+        if tree.fits(&path) {
+            tree.put(path, Bytes::new(name.as_bytes().to_vec(alloc)?))?;
+        }
+    }
+    Ok(tree)
+}
+
+/// A disk without files whose calls with these numbers fail.
+pub fn empty(alloc: Global, fails: Vec<u64>) -> Quiet {
+    let disk = MemDisk::new(alloc, Tree::new(alloc), fails);
+    Quiet { disk, faults: 0 }
+}
+
+/// A disk with these files.
+pub fn with_files(alloc: Global, names: &str) -> Result<Quiet, Fail> {
+    let disk = MemDisk::never_failing(alloc, tree(alloc, names)?);
+    Ok(Quiet { disk, faults: 0 })
+}

@@ -1,0 +1,9 @@
+// Tests of the verdict: that calls succeed where there is memory, which no clause can say, and worked cases.
+#![tactic(auto)]
+
+#[cfg(test)]
+mod given;
+#[cfg(test)]
+mod rows;
+#[cfg(test)]
+mod said;
