@@ -1,7 +1,6 @@
 // Reading the parts of an element.
 ghost use Rattle.std.specs.Prelude.{◌≡◌, None, option_map, IfOk};
 ghost use Rattle.std.specs.Option.{option_copied};
-ghost use Rattle.wse_path.specs.Changes.{is_same};
 ghost use Rattle.wse_element.specs.Record.{IsBodyOf, AreParts};
 ghost use Rattle.wse_element.specs.declared.body.Body.TheVariants.{Whole};
 ghost use Rattle.wse_codec.specs.Pieces.{row_at, coded_at};
@@ -14,7 +13,7 @@ use crate::paths::take_path;
 use crate::unread::Unread;
 use std::alloc::Global;
 use wse_element::{Body, Part, PartState, Parts};
-use wse_path::{Bytes, RelPath};
+use wse_path::{Bytes, RelPath, content_slice, is_same_content};
 
 /// Whether a part still counts.
 #[tactic(auto, unfolding(crate::specs::Reading::state_of, crate::specs::Pieces::coded_at))]
@@ -30,23 +29,13 @@ fn take_state(bytes: &[u8]) -> Result<(PartState, &[u8]), Unread>
     }
 }
 
-fn is_same(was: &Option<Bytes>, is: &Option<Bytes>) -> bool
-    ensures { result ≡ is_same was.now is.now }
-{
-    match (was, is) {
-        (None, None) => true,
-        (Some(was), Some(is)) => was.as_slice() == is.as_slice(),
-        _ => false,
-    }
-}
-
 /// Whether a part in this state may hold these contents.
 #[tactic(auto, unfolding(crate::specs::Reading::may_hold))]
 fn may_hold(state: PartState, was: &Option<Bytes>, is: &Option<Bytes>) -> bool
     ensures { result ≡ may_hold state was.now is.now }
 {
     match state {
-        PartState::Live => !is_same(was, is),
+        PartState::Live => !is_same_content(content_slice(was), content_slice(is)),
         PartState::Closed | PartState::Incompatible => was.is_none() && is.is_none(),
     }
 }

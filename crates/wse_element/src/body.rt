@@ -4,7 +4,7 @@ ghost use Rattle.wse_path.specs.Changes.{is_same};
 ghost use Rattle.wse_element.specs.Content.{old_content, new_content, no_contents, content_len};
 
 use std::alloc::Global;
-use wse_path::{Bytes, Duplicate, Memory};
+use wse_path::{Bytes, Duplicate, Memory, content_slice, is_same_content};
 
 /// What a path had before a command, and what it had after it. Content that isn't there is None.
 #[derive(Drop)]
@@ -32,7 +32,7 @@ impl Body {
         ensures { IsTrue result ↔ (old_content self.now ≢ new_content self.now) }
     {
         match self {
-            Body::Whole { was, is } => !is_equal(was, is),
+            Body::Whole { was, is } => !is_same_content(content_slice(was), content_slice(is)),
         }
     }
 
@@ -59,7 +59,10 @@ impl Body {
         ensures { result ≡ is_same (new_content self.now) (old_content next.now) }
     {
         match (self, next) {
-            (Body::Whole { is, .. }, Body::Whole { was, .. }) => is_equal(is, was),
+            (Body::Whole { is, .. }, Body::Whole { was, .. }) => is_same_content(
+                content_slice(is),
+                content_slice(was),
+            ),
         }
     }
 
@@ -68,7 +71,10 @@ impl Body {
         ensures { result ≡ is_same (old_content self.now) (new_content before.now) }
     {
         match (self, before) {
-            (Body::Whole { was, .. }, Body::Whole { is, .. }) => is_equal(was, is),
+            (Body::Whole { was, .. }, Body::Whole { is, .. }) => is_same_content(
+                content_slice(was),
+                content_slice(is),
+            ),
         }
     }
 
@@ -106,16 +112,6 @@ impl Body {
         match self {
             Body::Whole { is, .. } => len_of(is),
         }
-    }
-}
-
-fn is_equal(was: &Option<Bytes>, is: &Option<Bytes>) -> bool
-    ensures { result ≡ is_same was.now is.now }
-{
-    match (was, is) {
-        (None, None) => true,
-        (Some(was), Some(is)) => was.as_slice() == is.as_slice(),
-        _ => false,
     }
 }
 

@@ -8,7 +8,7 @@ ghost use Rattle.wse_json.specs.Members.{reading, optional};
 ghost use Rattle.wse_json.specs.Shapes.{Gives, HasUriCause};
 
 use crate::changes::workspace_edit_of;
-use crate::kinds::{object_at, text_if_there};
+use crate::kinds::{Member, member_or, object_at, text_if_there};
 use crate::members::optional;
 use crate::paths::{path_at, paths_in};
 use crate::pointer::{field, under, under_item, wrong};
@@ -37,50 +37,34 @@ fn label_in(alloc: Global, line: &Value) -> Result<Label, Shape>
     }
 }
 
-fn failure_of(failure: &Value) -> Option<FailureKind>
-    ensures { result ≡ one_of failure_names (view failure.now) }
-{
-    match failure.as_str()? {
-        "abort" => Some(FailureKind::Abort),
-        "transactional" => Some(FailureKind::Transactional),
-        "textOnlyTransactional" => Some(FailureKind::TextOnlyTransactional),
-        "undo" => Some(FailureKind::Undo),
-        _ => None,
+impl Member for FailureKind {
+    ghost kind = { one_of failure_names };
+
+    fn read(value: &Value) -> Option<FailureKind>
+        ensures { result ≡ one_of failure_names (view value.now) }
+    {
+        match value.as_str()? {
+            "abort" => Some(FailureKind::Abort),
+            "transactional" => Some(FailureKind::Transactional),
+            "textOnlyTransactional" => Some(FailureKind::TextOnlyTransactional),
+            "undo" => Some(FailureKind::Undo),
+            _ => None,
+        }
     }
 }
 
-fn failure_in(alloc: Global, line: &Value) -> Result<FailureKind, Shape>
-    ensures { Gives (standard (codes "failure") (one_of failure_names) FailureKind.Abort (view line.now)) result }
-{
-    let Some(failure) = optional(line, "failure") else {
-        return Ok(FailureKind::Abort);
-    };
-    match failure_of(failure) {
-        Some(failure) => Ok(failure),
-        None => Err(field(alloc, "failure")),
-    }
-}
+impl Member for Encoding {
+    ghost kind = { one_of encoding_names };
 
-fn encoding_of(encoding: &Value) -> Option<Encoding>
-    ensures { result ≡ one_of encoding_names (view encoding.now) }
-{
-    match encoding.as_str()? {
-        "utf-8" => Some(Encoding::Utf8),
-        "utf-16" => Some(Encoding::Utf16),
-        "utf-32" => Some(Encoding::Utf32),
-        _ => None,
-    }
-}
-
-fn encoding_in(alloc: Global, line: &Value) -> Result<Encoding, Shape>
-    ensures { Gives (standard (codes "encoding") (one_of encoding_names) Encoding.Utf16 (view line.now)) result }
-{
-    let Some(encoding) = optional(line, "encoding") else {
-        return Ok(Encoding::Utf16);
-    };
-    match encoding_of(encoding) {
-        Some(encoding) => Ok(encoding),
-        None => Err(field(alloc, "encoding")),
+    fn read(value: &Value) -> Option<Encoding>
+        ensures { result ≡ one_of encoding_names (view value.now) }
+    {
+        match value.as_str()? {
+            "utf-8" => Some(Encoding::Utf8),
+            "utf-16" => Some(Encoding::Utf16),
+            "utf-32" => Some(Encoding::Utf32),
+            _ => None,
+        }
     }
 }
 
@@ -129,8 +113,8 @@ fn edit_in(alloc: Global, root: &Url, line: &Value) -> Result<Edit, Shape>
     ensures { Gives (edit_in root.now (view line.now)) result }
 {
     let label = label_in(alloc, line)?;
-    let failure = failure_in(alloc, line)?;
-    let encoding = encoding_in(alloc, line)?;
+    let failure = member_or(alloc, line, "failure", FailureKind::Abort)?;
+    let encoding = member_or(alloc, line, "encoding", Encoding::Utf16)?;
     let confirmed = confirmed_in(alloc, line)?;
     let Some(edit) = object_at(line, "edit") else {
         return Err(field(alloc, "edit"));
@@ -146,26 +130,18 @@ fn edit_in(alloc: Global, root: &Url, line: &Value) -> Result<Edit, Shape>
     }
 }
 
-fn choice_of(choice: &Value) -> Option<Choice>
-    ensures { result ≡ one_of choice_names (view choice.now) }
-{
-    match choice.as_str()? {
-        "all" => Some(Choice::All),
-        "this" => Some(Choice::This),
-        "cancel" => Some(Choice::Cancel),
-        _ => None,
-    }
-}
+impl Member for Choice {
+    ghost kind = { one_of choice_names };
 
-fn choice_in(alloc: Global, line: &Value) -> Result<Choice, Shape>
-    ensures { Gives (standard (codes "choice") (one_of choice_names) Choice.All (view line.now)) result }
-{
-    let Some(choice) = optional(line, "choice") else {
-        return Ok(Choice::All);
-    };
-    match choice_of(choice) {
-        Some(choice) => Ok(choice),
-        None => Err(field(alloc, "choice")),
+    fn read(value: &Value) -> Option<Choice>
+        ensures { result ≡ one_of choice_names (view value.now) }
+    {
+        match value.as_str()? {
+            "all" => Some(Choice::All),
+            "this" => Some(Choice::This),
+            "cancel" => Some(Choice::Cancel),
+            _ => None,
+        }
     }
 }
 
@@ -182,7 +158,7 @@ fn move_in(
     ensures { Gives (move_in root.now by direction (view line.now)) result }
 {
     let path = path_at(alloc, root, line, "uri")?;
-    let choice = choice_in(alloc, line)?;
+    let choice = member_or(alloc, line, "choice", Choice::All)?;
     Ok(Command::Move {
         by,
         direction,
@@ -242,15 +218,17 @@ fn verb_in(line: &Value) -> Option<Verb>
     verb_of(optional(line, "do")?)
 }
 
-fn by_in(alloc: Global, line: &Value) -> Result<u32, Shape>
-    ensures { Gives (standard (codes "by") (a_whole_up_to 4294967295) 0 (view line.now)) result }
-{
-    let Some(by) = optional(line, "by") else {
-        return Ok(0);
-    };
-    match by.as_u64() {
-        Some(by) if by <= 4_294_967_295 => Ok(by as u32),
-        _ => Err(field(alloc, "by")),
+// A participant.
+impl Member for u32 {
+    ghost kind = { a_whole_up_to 4294967295 };
+
+    fn read(value: &Value) -> Option<u32>
+        ensures { result ≡ a_whole_up_to 4294967295 (view value.now) }
+    {
+        match value.as_u64() {
+            Some(by) if by <= 4_294_967_295 => Some(by as u32),
+            _ => None,
+        }
     }
 }
 
@@ -300,7 +278,7 @@ fn command_of(alloc: Global, root: &Url, line: &Value) -> Result<Command, Shape>
     if !line.is_object() {
         return Err(wrong(alloc));
     }
-    let by = by_in(alloc, line)?;
+    let by = member_or(alloc, line, "by", 0)?;
     let Some(verb) = verb_in(line) else {
         return Err(field(alloc, "do"));
     };

@@ -1,5 +1,6 @@
 // Members of each kind. Null counts as missing.
-ghost use Rattle.std.specs.Prelude.{◌≡◌, false, option_map, option_and_then};
+ghost use Rattle.std.specs.Prelude.{◌≡◌, Option, false, option_map, option_and_then};
+ghost use Rattle.serde_json.specs.Data.{Data};
 ghost use Rattle.serde_json.specs.Find.{as_bool, as_str, as_array};
 ghost use Rattle.serde_json.specs.View.{view, items_view};
 ghost use Rattle.wse_json.specs.Members.{optional};
@@ -44,17 +45,48 @@ pub fn whole_at(object: &Value, name: &str) -> Option<u64>
     optional(object, name).and_then(Value::as_u64)
 }
 
+/// A type of which a member may be a value.
+pub trait Member: Drop {
+    ghost kind: { Data → Option Self };
+
+    /// The value, or None where it is of another kind.
+    fn read(value: &Value) -> Option<Self>
+    where
+        Self: Sized,
+        ensures { result ≡ kind (view value.now) };
+}
+
+impl Member for bool {
+    ghost kind = { as_bool };
+
+    fn read(value: &Value) -> Option<bool> {
+        value.as_bool()
+    }
+}
+
+/// The value that the member is; the standard one where it is missing.
+pub fn member_or<M: Member>(
+    alloc: Global,
+    object: &Value,
+    name: &str,
+    otherwise: M,
+) -> Result<M, Shape>
+    ensures { Gives (standard name.now M.kind otherwise (view object.now)) result }
+{
+    let Some(member) = optional(object, name) else {
+        return Ok(otherwise);
+    };
+    match M::read(member) {
+        Some(value) => Ok(value),
+        None => Err(field(alloc, name)),
+    }
+}
+
 /// The true or false that the member is; false where it is missing.
 pub fn flag_at(alloc: Global, object: &Value, name: &str) -> Result<bool, Shape>
     ensures { Gives (standard name.now as_bool false (view object.now)) result }
 {
-    let Some(member) = optional(object, name) else {
-        return Ok(false);
-    };
-    match member.as_bool() {
-        Some(flag) => Ok(flag),
-        None => Err(field(alloc, name)),
-    }
+    member_or(alloc, object, name, false)
 }
 
 /// The text that the member is, if it is there.

@@ -9,7 +9,7 @@ ghost use Rattle.wse_json.specs.Operations.{flags_of, options_in, create_of, ren
 ghost use Rattle.wse_json.specs.Shapes.{Gives};
 ghost use Rattle.wse_json.specs.TextEdits.{text_edits_of};
 
-use crate::kinds::{flag_at, list_at, object_at};
+use crate::kinds::{Member, flag_at, list_at, member_or, object_at};
 use crate::members::optional;
 use crate::notes::Notes;
 use crate::paths::path_at;
@@ -198,26 +198,18 @@ pub enum Kind {
     Delete,
 }
 
-fn kind_of(kind: &Value) -> Option<Kind>
-    ensures { result ≡ one_of kind_names (view kind.now) }
-{
-    match kind.as_str()? {
-        "create" => Some(Kind::Create),
-        "rename" => Some(Kind::Rename),
-        "delete" => Some(Kind::Delete),
-        _ => None,
-    }
-}
+impl Member for Kind {
+    ghost kind = { one_of kind_names };
 
-fn kind_in(alloc: Global, item: &Value) -> Result<Kind, Shape>
-    ensures { Gives (standard (codes "kind") (one_of kind_names) Kind.Text (view item.now)) result }
-{
-    let Some(kind) = optional(item, "kind") else {
-        return Ok(Kind::Text);
-    };
-    match kind_of(kind) {
-        Some(kind) => Ok(kind),
-        None => Err(field(alloc, "kind")),
+    fn read(value: &Value) -> Option<Kind>
+        ensures { result ≡ one_of kind_names (view value.now) }
+    {
+        match value.as_str()? {
+            "create" => Some(Kind::Create),
+            "rename" => Some(Kind::Rename),
+            "delete" => Some(Kind::Delete),
+            _ => None,
+        }
     }
 }
 
@@ -253,6 +245,6 @@ pub fn operation_of(
     if !item.is_object() {
         return Err(wrong(alloc));
     }
-    let kind = kind_in(alloc, item)?;
+    let kind = member_or(alloc, item, "kind", Kind::Text)?;
     operation_by(alloc, root, notes, kind, item)
 }

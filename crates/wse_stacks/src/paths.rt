@@ -37,21 +37,11 @@ fn put_all(found: &mut PathMap<u32>, alloc: Global, entries: &[Entry]) -> Result
     Ok(())
 }
 
-fn paths_of(alloc: Global, entries: &[(RelPath, u32)]) -> Result<Files, Memory>
-    ensures { IfOk result (λ paths. paths ≡ map (λ e. e.0) entries.now) }
-{
-    let mut paths = Vec::with_capacity(alloc, entries.len())?;
-    for entry in entries {
-        paths.push(entry.0.duplicate(alloc)?)?;
-    }
-    Ok(Files::new(paths))
-}
-
 /// The paths at which one of the elements is live, in path order.
 pub(crate) fn live_paths(entries: &[Entry], alloc: Global) -> Result<Files, Memory>
     ensures { IfOk result (AreLivePaths entries.now) }
 {
     let mut found = PathMap::new(alloc);
     put_all(&mut found, alloc, entries)?;
-    paths_of(alloc, found.as_slice())
+    found.paths(alloc)
 }

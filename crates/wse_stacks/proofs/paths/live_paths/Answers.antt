@@ -15,5 +15,4 @@ returns c =
     let records = c.args.entries.now in
     let found = c.put_all.new.found in
     let live = keys_are_live records found.entries found.rises (λ p. c.in_ok-put_all.ensures p ∙ ap (λ (es : Numbers). has_entry es p || list_any (is_live_at p) records) c.new-found.ensures) in
-    let there = subst (λ (es : Numbers). AreLivePaths records (map (λ e. e.0) es)) (sym c.as_slice.ensures) live in
-    if_ok c.paths_of.result (λ paths. paths ≡ map (λ e. e.0) c.as_slice.result.now) (AreLivePaths records) c.paths_of.ensures (λ paths e. subst (AreLivePaths records) (sym e) there)
+    if_ok c.paths.result (λ paths. paths ≡ map (λ e. e.0) found.entries) (AreLivePaths records) c.paths.ensures (λ paths e. subst (AreLivePaths records) (sym e) live)
