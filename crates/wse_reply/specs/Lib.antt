@@ -1,0 +1,9 @@
+pub mod Edited
+pub mod Limits
+pub mod Moved
+pub mod Objects
+pub mod Reasons
+pub mod Refusals
+pub mod Reply
+pub mod Told
+pub mod Values
