@@ -23,19 +23,19 @@ use Rattle.wse_history.proofs.Words.{AreLinked, PiecesMayGo}
 -- ---- the closest of each
 
 -- Both are there and stand in that relation, or neither is.
-abbrev Both : (Record → Record → Type 0) → Option Record → Option Record → Type 0
+abbrev pub Both : (Record → Record → Type 0) → Option Record → Option Record → Type 0
 Both R None None = ⊤
 Both R None (Some y) = ⊥
 Both R (Some x) None = ⊥
 Both R (Some x) (Some y) = R x y
 
-both_last : (R : Record → Record → Type 0) (o u : Option Record) (xs ys : List Record) → Both R o u → AllZip R xs ys → Both R (last_or o xs) (last_or u ys)
+pub both_last : (R : Record → Record → Type 0) (o u : Option Record) (xs ys : List Record) → Both R o u → AllZip R xs ys → Both R (last_or o xs) (last_or u ys)
 both_last R o u [] [] h zip = h
 both_last R o u [] (y ∷ ys) h zip = absurd zip
 both_last R o u (x ∷ xs) [] h zip = absurd zip
 both_last R o u (x ∷ xs) (y ∷ ys) h zip = both_last R (Some x) (Some y) xs ys zip.0 zip.1
 
-both_first : (R : Record → Record → Type 0) (xs ys : List Record) → AllZip R xs ys → Both R (slice_get xs 0) (slice_get ys 0)
+pub both_first : (R : Record → Record → Type 0) (xs ys : List Record) → AllZip R xs ys → Both R (slice_get xs 0) (slice_get ys 0)
 both_first R [] [] zip = tt
 both_first R [] (y ∷ ys) zip = absurd zip
 both_first R (x ∷ xs) [] zip = absurd zip
@@ -51,7 +51,7 @@ pub record SecondOf (R : Record → Record → Type 0) (r : Record) (u : Option 
   pub is : u ≡ Some second
   pub stands : R r second
 
-second_of : (R : Record → Record → Type 0) (r : Record) (o u : Option Record) → o ≡ Some r → Both R o u → SecondOf R r u
+pub second_of : (R : Record → Record → Type 0) (r : Record) (o u : Option Record) → o ≡ Some r → Both R o u → SecondOf R r u
 second_of R r o None is both = absurd (subst (λ x. Both R x None) is both)
 second_of R r o (Some s) is both = record { second = s; is = refl; stands = subst (λ x. Both R x (Some s)) is both }
 

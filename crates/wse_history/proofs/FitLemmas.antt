@@ -67,14 +67,14 @@ apply_drops serial h versions before (p ∷ ps) kept room may =
 
 -- ---- bumps apply
 
-abbrev rise_within : ℕ → Numbers → List Path → Bool
+abbrev pub rise_within : ℕ → Numbers → List Path → Bool
 rise_within most versions paths = list_all (λ p. nat_le (version_of versions p + 1) most) paths
 
 version_elsewhere : (versions : Numbers) (p q : Path) → eq_by_cmp path_cmp q p ≡ false → version_of (bumped versions p 1) q ≡ version_of versions q
 version_elsewhere versions p q other =
     ap (λ o. unwrap_or o 0) (find-put path_cmp total q p (version_of versions p + 1) versions ∙ ap (λ b. cond b (Some (version_of versions p + 1)) (find_key path_cmp q versions)) other)
 
-rise_elsewhere : (most : ℕ) (versions : Numbers) (p : Path) (paths : List Path) → list_any (λ q. eq_by_cmp path_cmp q p) paths ≡ false → rise_within most versions paths ≡ true → rise_within most (bumped versions p 1) paths ≡ true
+pub rise_elsewhere : (most : ℕ) (versions : Numbers) (p : Path) (paths : List Path) → list_any (λ q. eq_by_cmp path_cmp q p) paths ≡ false → rise_within most versions paths ≡ true → rise_within most (bumped versions p 1) paths ≡ true
 rise_elsewhere most versions p [] other all = refl
 rise_elsewhere most versions p (q ∷ paths) other all =
     let o = or_parts (eq_by_cmp path_cmp q p) (list_any (λ x. eq_by_cmp path_cmp x p) paths) other in

@@ -74,7 +74,7 @@ none_filtered test kept (p ∷ ps) h =
     let both = or_parts (test p) (list_any test ps) h in
     elim (kept p) as (λ b. list_any test (cond b (p ∷ filter kept ps) (filter kept ps)) ≡ false) [ true ↦ or_from (test p) (list_any test (filter kept ps)) both.0 (none_filtered test kept ps both.1) | false ↦ none_filtered test kept ps both.1 ]
 
-distinct_filtered : (kept : Path → Bool) (ps : List Path) → are_distinct ps ≡ true → are_distinct (filter kept ps) ≡ true
+pub distinct_filtered : (kept : Path → Bool) (ps : List Path) → are_distinct ps ≡ true → are_distinct (filter kept ps) ≡ true
 distinct_filtered kept [] h = refl
 distinct_filtered kept (p ∷ ps) h =
     let both = and_parts (not (list_any (λ q. eq_by_cmp path_cmp q p) ps)) (are_distinct ps) h in
@@ -88,7 +88,7 @@ pub closes_may : (h : StacksState) (paths : List Path) → are_distinct paths �
 closes_may h paths distinct =
     closes_each h (filter (λ p. list_any (is_live_at p) h.records) paths) (distinct_filtered (λ p. list_any (is_live_at p) h.records) paths distinct) (filter_passes (λ p. list_any (is_live_at p) h.records) paths)
 
-unequal_back : (p q : Path) → is_eq (path_cmp p q) ≡ false → eq_by_cmp path_cmp q p ≡ false
+pub unequal_back : (p q : Path) → is_eq (path_cmp p q) ≡ false → eq_by_cmp path_cmp q p ≡ false
 unequal_back p q h = false_from_ne_true (eq_by_cmp path_cmp q p) (λ e. both_ways (eq_by_cmp path_cmp p q) h (subst (λ x. eq_by_cmp path_cmp p x ≡ true) (sym (same_path q p e)) (eq_itself p)))
 
 none_again : (p : Path) (parts : List RecordPart) → below_all path_cmp p (by_path parts) ≡ true → list_any (λ q. eq_by_cmp path_cmp q p) (map (λ part. part.path) parts) ≡ false
@@ -118,7 +118,7 @@ no_chosen_flush This r cause files gone h = cc
 no_chosen_flush Cancel r cause files gone h = cc
 no_chosen_flush (Turned more) r cause files gone h = cc
 
-across_flush : (o : Option Blocking) (choice : Choice) (r : Record) (cause : Cause) (files gone : List Path) → across_ruling o choice r ≡ rulings.Flush cause files gone → all_paths r ≡ gone
+pub across_flush : (o : Option Blocking) (choice : Choice) (r : Record) (cause : Cause) (files gone : List Path) → across_ruling o choice r ≡ rulings.Flush cause files gone → all_paths r ≡ gone
 across_flush (Some b) choice r cause files gone h =
     elim r.splits as (λ s. cond s (rulings.Split r.id b.cause b.files) (rulings.Flush b.cause b.files (all_paths r)) ≡ rulings.Flush cause files gone → all_paths r ≡ gone) [ true ↦ λ k. cc | false ↦ λ k. cc ] h
 across_flush None choice r cause files gone h =

@@ -1,5 +1,5 @@
 -- What forgetting a path's history records.
-use Rattle.std.proofs.Common.{◌≡◌, ℕ, ◌+◌, Bool, true, false, cond, not, ◌&&◌, ◌||◌, List, [], ◌∷◌, Option, Some, None, is_some, option_map, refl, sym, ap, subst, ◌≢◌, ◌<◌, length, arith, ◌∙◌}
+use Rattle.std.proofs.Common.{◌≡◌, ◌+◌, Bool, true, false, cond, not, ◌&&◌, ◌||◌, List, [], ◌∷◌, Option, Some, None, is_some, option_map, refl, sym, ap, subst, ◌≢◌, ◌<◌, length, arith, ◌∙◌}
 use Rattle.std.specs.Prelude.{filter, slice_get}
 use Rattle.std.specs.List.{All, list_any, last_or}
 use Rattle.std.specs.Option.{option_map_or, option_or}
@@ -15,11 +15,10 @@ use Rattle.wse_element.specs.Record.{Record}
 use Rattle.wse_element.specs.Live.{is_live_at}
 use Rattle.wse_element.specs.Stacks.{past, future, closest_past, closest_future}
 use Rattle.wse_element.specs.State.{State}
-use Rattle.wse_element.specs.Effects.{state_after}
 use Rattle.wse_apply.specs.Limit.{hit_above}
 use Rattle.wse_history.specs.declared.answer.Answer.TheVariants.{Forgotten, NothingThere, Refused}
 use Rattle.wse_history.specs.Outcome.{Outcome, stays, records, is_some_of}
-use Rattle.wse_history.specs.Limits.{hit_of, within_limits}
+use Rattle.wse_history.specs.Limits.{within_limits}
 use Rattle.wse_history.specs.Forgetting.{forget_outcome}
 use Rattle.wse_history.specs.Planning.{PlansAsOutcome, MayRecord}
 use Rattle.wse_history.specs.Plain.{recorded_with}

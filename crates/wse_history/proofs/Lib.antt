@@ -30,3 +30,14 @@ pub mod OutcomeLemmas
 pub mod MayLemmas
 pub mod OneSpelled
 pub mod ForgetLemmas
+pub mod RisenLemmas
+pub mod HitLemmas
+pub mod LeadingLemmas
+pub mod OutsideLemmas
+pub mod MoveLemmas
+pub mod MoveSpelled
+pub mod MovedLemmas
+pub mod ClosedLemmas
+pub mod PlaceLemmas
+pub mod GoneLemmas
+pub mod SplitLemmas

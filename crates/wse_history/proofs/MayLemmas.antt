@@ -1,5 +1,5 @@
 -- Effects that may apply, and are short enough to be written, may be recorded.
-use Rattle.std.proofs.Common.{◌≡◌, ◌≢◌, true, List, []}
+use Rattle.std.proofs.Common.{◌≡◌, true, List}
 use Rattle.std.specs.List.{All}
 use Rattle.std.specs.FinMap.{is_sorted}
 use Rattle.wse_path.specs.Order.{path_cmp}

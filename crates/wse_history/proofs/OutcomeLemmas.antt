@@ -38,7 +38,7 @@ recorded P true None es refused done other given some = given refl some
 recorded P true (Some hit) es refused done other given some = absurd (some refl)
 recorded P false hit es refused done other given some = absurd (some refl)
 
-by_outcome : (P : List Effect → Type 0) (limits : Limits) (s : State) (edit : EditValue) (done : Performed)
+pub by_outcome : (P : List Effect → Type 0) (limits : Limits) (s : State) (edit : EditValue) (done : Performed)
     → (edit_hit limits (state_after s (edit_effects s edit done)) ≡ None → edit_effects s edit done ≢ [] → P (edit_effects s edit done))
     → (performed_outcome limits s edit done).effects ≢ [] → P (performed_outcome limits s edit done).effects
 by_outcome P limits s edit done given some =

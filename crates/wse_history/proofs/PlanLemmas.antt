@@ -72,11 +72,11 @@ effects_are s edit done first second third a b c =
     c ∙ ap (λ es. es ++ bumps done.bumps) (b ∙ ap (λ es. es ++ push_of s edit done.changes) (a ∙ drops_are s.records done.changes))
     ∙ append_assoc (drops (filter (has_future s.records) (paths_of done.changes))) (push_of s edit done.changes) (bumps done.bumps)
 
-none_of : {X : Type 0} (xs : List X) → nat_eq (length xs) 0 ≡ true → xs ≡ []
+pub none_of : {X : Type 0} (xs : List X) → nat_eq (length xs) 0 ≡ true → xs ≡ []
 none_of [] e = refl
 none_of (x ∷ xs) e = absurd (omega (arith, eqb-true (length (x ∷ xs)) 0 e))
 
-some_of : {X : Type 0} (xs : List X) → nat_eq (length xs) 0 ≡ false → xs ≢ []
+pub some_of : {X : Type 0} (xs : List X) → nat_eq (length xs) 0 ≡ false → xs ≢ []
 some_of xs e is = false≢true (sym e ∙ ap (λ (ys : List _). nat_eq (length ys) 0) is)
 
 -- there are effects, or none

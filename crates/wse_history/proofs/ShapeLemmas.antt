@@ -104,11 +104,12 @@ above_none which limit number h =
     ] refl h
 
 -- Limits that aren't above the program's.
-record Within (limits : Limits) : Type 0 where
-  serial : limits.serial ≤ 2 ^ 30 - 1
-  known : limits.known ≤ 2 ^ 29
+pub record Within (limits : Limits) : Type 0 where
+  pub serial : limits.serial ≤ 2 ^ 30 - 1
+  pub known : limits.known ≤ 2 ^ 29
+  pub file_bytes : limits.file_bytes ≤ 2 ^ 24
 
-within_of : (limits : Limits) → are_within limits standard ≡ true → Within limits
+pub within_of : (limits : Limits) → are_within limits standard ≡ true → Within limits
 within_of limits h =
     let five = nat_le limits.files 65536 && nat_le limits.file_bytes 16777216 && nat_le limits.tree_bytes 268435456 && nat_le limits.known 536870912 && nat_le limits.weight 536870912 in
     let four = nat_le limits.files 65536 && nat_le limits.file_bytes 16777216 && nat_le limits.tree_bytes 268435456 && nat_le limits.known 536870912 in
@@ -116,7 +117,13 @@ within_of limits h =
     let a = and_parts five (nat_le limits.serial 1073741823) h in
     let b = and_parts four (nat_le limits.weight 536870912) a.0 in
     let c = and_parts three (nat_le limits.known 536870912) b.0 in
-    record { serial = leb-true limits.serial 1073741823 a.1; known = leb-true limits.known 536870912 c.1 }
+    let d = and_parts (nat_le limits.files 65536 && nat_le limits.file_bytes 16777216) (nat_le limits.tree_bytes 268435456) c.0 in
+    let e = and_parts (nat_le limits.files 65536) (nat_le limits.file_bytes 16777216) d.0 in
+    record { serial = leb-true limits.serial 1073741823 a.1; known = leb-true limits.known 536870912 c.1; file_bytes = leb-true limits.file_bytes 16777216 e.1 }
+
+-- what is known stays in its bound
+pub few_known : (limits : Limits) (s : State) → are_within limits standard ≡ true → known_hit limits s ≡ None → known s.versions ≤ 2 ^ 29
+few_known limits s within none = less_than (known s.versions) limits.known (2 ^ 29) (above_none Known limits.known (known s.versions) none) (within_of limits within).known
 
 -- the serial number stays in its bound
 pub serial_within : (limits : Limits) (s : State) (effects : List Effect) → IsHistory s limits → hit_of limits effects (state_after s effects) ≡ None → s.serial + 1 ≤ 2 ^ 30 - 1

@@ -88,7 +88,7 @@ sorted_freed [] es s = s
 sorted_freed (p ∷ files) es s = sorted_freed files (without es p) (so _ (is_sorted-where_key path_cmp (λ q. not (eq_by_cmp path_cmp p q)) es (to_so _ s)))
 
 -- what a search by position finds
-pub found_some : (test : Path → Bool) (files : List Path) (i : ℕ) → position test files ≡ Some i → record { within : i < length files; found : find test files ≡ slice_get files i }
+pub found_some : {X : Type 0} (test : X → Bool) (files : List X) (i : ℕ) → position test files ≡ Some i → record { within : i < length files; found : find test files ≡ slice_get files i }
 found_some test files i is =
     let n = position_or_len test files in
     elim (nat_lt n (length files)) as (λ b. nat_lt n (length files) ≡ b → cond b (Some n) None ≡ Some i → record { within : i < length files; found : find test files ≡ slice_get files i }) [
@@ -98,7 +98,7 @@ found_some test files i is =
       | false ↦ λ t k. cc
     ] refl is
 
-pub found_none : (test : Path → Bool) (files : List Path) → position test files ≡ None → find test files ≡ None
+pub found_none : {X : Type 0} (test : X → Bool) (files : List X) → position test files ≡ None → find test files ≡ None
 found_none test files is =
     let n = position_or_len test files in
     elim (nat_lt n (length files)) as (λ b. nat_lt n (length files) ≡ b → ◌≡◌ {A = Option ℕ} (cond b (Some n) None) None → find test files ≡ None) [

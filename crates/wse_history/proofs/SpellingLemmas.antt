@@ -29,11 +29,11 @@ segments_short [] = omega arith
 segments_short (s ∷ []) = omega (arith, length-append s [])
 segments_short (s ∷ t ∷ ss) = omega (arith, length-append s (flat_map segment_bytes (t ∷ ss)), length-append s (47 ∷ text_of (t ∷ ss)), segments_short (t ∷ ss))
 
-path_short : (p : Path) → length (path_bytes p) ≤ length (text_of p) + 2
+pub path_short : (p : Path) → length (path_bytes p) ≤ length (text_of p) + 2
 unfolding path_bytes
 path_short p = let l = segments_short p in omega (arith, l)
 
-content_short : (content : Content) → length (content_bytes content) ≤ content_len content + 5
+pub content_short : (content : Content) → length (content_bytes content) ≤ content_len content + 5
 unfolding content_bytes run_bytes
 content_short None = omega arith
 content_short (Some bytes) = let four : length (to_be_bytes w32 (length bytes)) ≡ 4 = refl in omega (arith, four, length-append (to_be_bytes w32 (length bytes)) bytes)

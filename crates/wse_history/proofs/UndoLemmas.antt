@@ -43,7 +43,7 @@ shown_none limits s some = absurd (some refl)
 
 -- ---- without a split
 
-goes_here : (direction : Direction) (s : State) (by : ℕ) (p : Path) (choice : Choice) (id : ℕ) → AreLinked (now s) → ruling direction s.records s.locks by p choice ≡ rulings.Go id → may_come (now s) (move_effect direction id) ≡ true
+pub goes_here : (direction : Direction) (s : State) (by : ℕ) (p : Path) (choice : Choice) (id : ℕ) → AreLinked (now s) → ruling direction s.records s.locks by p choice ≡ rulings.Go id → may_come (now s) (move_effect direction id) ≡ true
 goes_here Back s by p choice id all go = goes_may Back (now s) s.locks by p choice id all go
 goes_here Forward s by p choice id all go = goes_may Forward (now s) s.locks by p choice id all go
 
@@ -73,7 +73,7 @@ abbrev split_course : State → Direction → Path → SplitNote → Course
 split_course s direction p note =
     record { direction = direction; records = (split_now s note.id).records; effects = Split note.id s.next_id ∷ []; note = Some note; asked = (begun_course s direction p).asked }
 
-piece_goes : (direction : Direction) (s : State) (by : ℕ) (p : Path) (choice : Choice) (id : ℕ) (cause : Cause) (files : List Path) (piece : Record) (moved : ℕ) → AreLinked (now s) → 0 < s.next_id → ruling direction s.records s.locks by p choice ≡ rulings.Split id cause files
+pub piece_goes : (direction : Direction) (s : State) (by : ℕ) (p : Path) (choice : Choice) (id : ℕ) (cause : Cause) (files : List Path) (piece : Record) (moved : ℕ) → AreLinked (now s) → 0 < s.next_id → ruling direction s.records s.locks by p choice ≡ rulings.Split id cause files
     → closest direction (split_now s id).records p ≡ Some piece → one_ruling s.locks by p piece ≡ rulings.Go moved → may_come (split_now s id) (move_effect direction moved) ≡ true
 piece_goes Back s by p choice id cause files piece moved all positive go is one = pieces_go Back (now s) s.locks by p choice id cause files piece moved all positive go is one
 piece_goes Forward s by p choice id cause files piece moved all positive go is one = pieces_go Forward (now s) s.locks by p choice id cause files piece moved all positive go is one

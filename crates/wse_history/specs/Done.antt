@@ -20,6 +20,10 @@ pairs_of numbered = map (λ b. (b.path, b.number)) numbered
 abbrev pub AreRises : List Numbered → Type 0
 AreRises bumps = AllByRecursion (λ b. (1 ≤ b.number) × (b.number ≤ 2)) bumps
 
+-- The paths, each rising by one.
+abbrev pub ones : List Path → List Numbered
+ones paths = map (λ p. record { path = p; number = 1 }) paths
+
 -- The changes of the edit lead to a tree, and versions rise by 1 or 2 each, in path order.
 pub record IsDone (files : Entries) (done : Performed) : Type 0 where
   pub lead : LeadToTree files done.changes

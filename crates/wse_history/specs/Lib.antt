@@ -11,6 +11,8 @@ pub mod Forgetting
 pub mod Looking
 pub mod Step
 pub mod History
+pub mod Moving
+pub mod Placed
 pub mod Planning
 pub mod Reserved
 pub mod Done

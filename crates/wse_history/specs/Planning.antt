@@ -1,11 +1,10 @@
 -- What a command is going to do. This project's own rule.
-use Rattle.std.specs.Prelude.{◌≡◌, ◌≢◌, ℕ, Bool, true, false, List, [], ◌∷◌, Option, option_map}
+use Rattle.std.specs.Prelude.{◌≡◌, ◌≢◌, ℕ, true, List, [], ◌∷◌, Option, option_map}
 use Rattle.std.specs.FinMap.{is_sorted}
 use Rattle.wse_path.specs.Path.{Path}
 use Rattle.wse_path.specs.Order.{path_cmp}
 use Rattle.wse_path.specs.Changes.{changes_between}
 use Rattle.wse_path.specs.declared.command.Command.{Command}
-use Rattle.wse_path.specs.declared.command.Command.TheVariants.{Edit, Lock, Unlock, Leave, Forget, Look}
 use Rattle.wse_path.specs.declared.limits.Limits.{Limits}
 use Rattle.wse_locks.specs.Locks.{Holders, LocksState}
 use Rattle.wse_element.specs.declared.effect.Effect.{Effect}
@@ -62,13 +61,3 @@ plan_of s effects = record { effects = effects; changes = changes_between s.file
 -- What a plan and these locks leave of the state.
 abbrev pub committed : State → Plan → Option Holders → State
 committed s plan locks = with_locks locks (recorded s plan.effects)
-
--- The command is one whose plan is built: an edit, one on locks, a forgetting, or a look.
-abbrev pub is_planned : Command → Bool
-is_planned (Edit by edit) = true
-is_planned (Lock by files) = true
-is_planned (Unlock by files) = true
-is_planned (Leave by) = true
-is_planned (Forget p) = true
-is_planned (Look p) = true
-is_planned _ = false

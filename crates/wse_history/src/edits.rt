@@ -2,7 +2,7 @@
 ghost use Rattle.std.specs.Prelude.{◌≡◌, Some, None, IfOk};
 ghost use Rattle.wse_apply.specs.Performed.{performed};
 ghost use Rattle.wse_history.specs.Edits.{edit_effects, edit_hit, edit_outcome, performed_outcome};
-ghost use Rattle.wse_history.specs.Done.{AreRises, IsDoneWithin, raised};
+ghost use Rattle.wse_history.specs.Done.{IsDoneWithin};
 ghost use Rattle.wse_history.specs.Planning.{PlansAsOutcome, MayRecordIfAny};
 ghost use Rattle.wse_history.specs.Plans.{element_of, left_alone, recorded_as};
 
@@ -11,12 +11,12 @@ use crate::effects::edit_effects;
 use crate::history::History;
 use crate::limits::edit_hit;
 use crate::planned::Planned;
-use crate::versions::raised;
+use crate::versions::changed;
 use crate::written::tell_effects;
 use std::alloc::Global;
 use wse_apply::{Performed, Reason, Skips, perform};
 use wse_element::{Effects, Plan};
-use wse_path::{Bumps, Changes, Edit, Hit, Memory, Numbered};
+use wse_path::{Bumps, Changes, Edit, Hit, Memory};
 
 /// Nothing is recorded.
 fn left_alone(
@@ -101,15 +101,6 @@ fn recorded(next_id: u64, done: Performed, effects: Effects, changed: Bumps) -> 
             skipped,
         },
     }
-}
-
-/// The paths whose version rises, with their new versions.
-fn changed(alloc: Global, history: &History, bumps: &[Numbered]) -> Result<Bumps, Memory>
-    requires { AreRises bumps.now }
-    ensures { IfOk result (λ changed. changed ≡ raised history.now.state.versions bumps.now) }
-{
-    let _ = history.limits();
-    raised(alloc, history.versions(), bumps)
 }
 
 /// What an edit that did this is going to record, and its answer.

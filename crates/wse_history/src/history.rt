@@ -9,11 +9,13 @@ ghost use Rattle.wse_apply.specs.Limit.{are_within, limit_hit};
 ghost use Rattle.wse_history.specs.History.{state_in, IsHistory};
 ghost use Rattle.wse_path.specs.Versions.{version_of};
 ghost use Rattle.wse_stacks.specs.Turns.{Turned};
-ghost use Rattle.wse_history.specs.Planning.{is_planned, entries_of, committed, PlansAs, MayRecord, MayRecordIfAny};
+ghost use Rattle.wse_history.specs.Planning.{entries_of, committed, PlansAs, MayRecord, MayRecordIfAny};
 
 use crate::edits::plan_edit;
 use crate::forgets::plan_forget;
 use crate::looks::plan_look;
+use crate::moves::plan_move;
+use crate::outsides::plan_outside;
 use crate::planned::Planned;
 use crate::room::{Room, into_contents, make_room};
 use crate::shares::{plan_leave, plan_lock, plan_unlock};
@@ -140,18 +142,23 @@ impl History {
 
     /// What the command is going to do, and its answer. Nothing changes.
     pub fn plan(&self, alloc: Global, command: &Command) -> Result<Planned, Memory>
-        requires built { is_planned command.now ≡ true }
         ensures planned { IfOk result (PlansAs self.now.limits self.now.state command.now) }
         ensures may { IfOk result (λ planned. MayRecordIfAny self.now.limits self.now.state planned.plan) }
     {
         match command {
             Command::Edit { by, edit } => plan_edit(alloc, self, *by, edit),
+            Command::Move {
+                by,
+                direction,
+                path,
+                choice,
+            } => plan_move(alloc, self, *by, *direction, path, choice),
             Command::Lock { by, files } => plan_lock(alloc, self, *by, files),
             Command::Unlock { by, files } => plan_unlock(alloc, self, *by, files),
             Command::Leave { by } => plan_leave(alloc, self, *by),
+            Command::Outside { path, content } => plan_outside(alloc, self, path, content),
             Command::Forget { path } => plan_forget(alloc, self, path),
             Command::Look { path } => plan_look(alloc, self, path),
-            _ => unreachable!(),
         }
     }
 

@@ -1,20 +1,17 @@
-// The versions that an edit gives.
+// The versions that commands give.
 ghost use Rattle.std.specs.Prelude.{◌≡◌, ◌+◌, ◌-◌, ◌^◌, ◌≤◌, All, true, IfOk};
 ghost use Rattle.std.specs.FinMap.{is_sorted};
 ghost use Rattle.wse_path.specs.Order.{path_cmp};
 ghost use Rattle.wse_path.specs.Versions.{version_of, known};
-ghost use Rattle.wse_history.specs.Done.{pairs_of, raised, with_versions, new_known};
+ghost use Rattle.wse_history.specs.Done.{pairs_of, AreRises, raised, with_versions, new_known};
 ghost use Rattle.wse_history.specs.History.{HasNoZero};
 
+use crate::history::History;
 use std::alloc::Global;
 use wse_path::{Bumps, Duplicate, Memory, Numbered, RelPath, Versions};
 
 /// The paths whose version rises, with their new versions.
-pub(crate) fn raised(
-    alloc: Global,
-    versions: &Versions,
-    bumps: &[Numbered],
-) -> Result<Bumps, Memory>
+fn raised(alloc: Global, versions: &Versions, bumps: &[Numbered]) -> Result<Bumps, Memory>
     requires fits { All (λ b. version_of versions.now.entries b.path + b.number ≤ 2 ^ 32 - 1) bumps.now }
     ensures { IfOk result (λ changed. changed ≡ raised versions.now.entries bumps.now) }
 {
@@ -25,6 +22,15 @@ pub(crate) fn raised(
         changed.push(Numbered { path, number })?;
     }
     Ok(Bumps::new(changed))
+}
+
+/// The same of the history's versions.
+pub(crate) fn changed(alloc: Global, history: &History, bumps: &[Numbered]) -> Result<Bumps, Memory>
+    requires { AreRises bumps.now }
+    ensures { IfOk result (λ changed. changed ≡ raised history.now.state.versions bumps.now) }
+{
+    let _ = history.limits();
+    raised(alloc, history.versions(), bumps)
 }
 
 /// What the path counts for where it has no version yet, and else nothing.

@@ -1,4 +1,4 @@
-use Rattle.std.proofs.Common.{List, [], None, sym, ap, subst, ◌∙◌}
+use Rattle.std.proofs.Common.{List, [], sym, ap, subst, ◌∙◌}
 use Rattle.std.specs.List.{All, list_any}
 use Rattle.wse_element.specs.declared.effect.Effect.{Effect}
 use Rattle.wse_element.specs.Live.{is_live_at}
