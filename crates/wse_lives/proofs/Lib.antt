@@ -1,0 +1,14 @@
+pub mod StayLemmas
+pub mod AgreeLemmas
+pub mod GoLemmas
+pub mod RedoLemmas
+pub mod PlainLemmas
+pub mod MakesLemmas
+pub mod StepLemmas
+pub mod LifeLemmas
+pub mod AdoptLemmas
+pub mod ReturnLemmas
+pub mod GaveLemmas
+pub mod DoneLemmas
+pub mod OverLemmas
+pub mod BackLemmas
