@@ -2,3 +2,12 @@ pub mod MeasureLemmas
 pub mod VersionLemmas
 pub mod FirstLemmas
 pub mod InitLemmas
+pub mod KeepLemmas
+pub mod RiseLemmas
+pub mod ReplaySteps
+pub mod RoundLemmas
+pub mod LoopLemmas
+pub mod FinishLemmas
+pub mod SnapshotLemmas
+pub mod FirstRecordLemmas
+pub mod JournalLemmas

@@ -4,3 +4,15 @@ pub mod Measure
 pub mod First
 pub mod Versions
 pub mod Init
+pub mod Keeps
+pub mod Laws
+pub mod Held
+pub mod Replaying
+pub mod Round
+pub mod Faults
+pub mod Unread
+pub mod Loop
+pub mod Snapshot
+pub mod FirstRecord
+pub mod Choose
+pub mod Journal

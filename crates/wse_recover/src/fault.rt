@@ -1,5 +1,9 @@
-// Why a store isn't made.
+// Why a store isn't made, and why its journal isn't read.
+ghost use Rattle.std.specs.Prelude.{◌≡◌};
+ghost use Rattle.wse_recover.specs.Faults.{fault_of_scan};
+
 use wse_disk::{Disk, Failed, ReadErr};
+use wse_log::ScanFault;
 use wse_path::{Hit, Memory, Which};
 
 /// Why a store isn't made. The disk is handed back.
@@ -56,5 +60,58 @@ impl From<ReadErr> for Unmade {
             ReadErr::Failed => Unmade::Disk,
             ReadErr::Memory => Unmade::Memory,
         }
+    }
+}
+
+/// What one round read.
+#[derive(Drop)]
+pub enum Round {
+    /// A record. The next piece stands at `next`.
+    Entered { settled: bool, next: u64 },
+    /// The journal ends: the gate at this place is closed.
+    Ended { gate: u64 },
+}
+
+/// Why a journal isn't read to its end.
+#[derive(Drop)]
+pub enum ReplayFault {
+    /// The first place at which it is no journal of a store.
+    NotAStore { at: u64 },
+    /// The disk failed.
+    Disk,
+    /// There was no memory.
+    Memory,
+}
+
+impl From<Failed> for ReplayFault {
+    ghost use Rattle.std.specs.Prelude.{◌≡◌};
+    ghost use Rattle.wse_recover.specs.declared.fault.ReplayFault.TheVariants as faults;
+
+    ghost from_gives = { λ _ fault. fault ≡ faults.Disk };
+
+    fn from(_: Failed) -> ReplayFault {
+        ReplayFault::Disk
+    }
+}
+
+impl From<Memory> for ReplayFault {
+    ghost use Rattle.std.specs.Prelude.{◌≡◌};
+    ghost use Rattle.wse_recover.specs.declared.fault.ReplayFault.TheVariants as faults;
+
+    ghost from_gives = { λ _ fault. fault ≡ faults.Memory };
+
+    fn from(_: Memory) -> ReplayFault {
+        ReplayFault::Memory
+    }
+}
+
+/// The fault as one of reading a journal.
+pub(crate) fn of_scan(fault: ScanFault) -> ReplayFault
+    ensures { result ≡ fault_of_scan fault }
+{
+    match fault {
+        ScanFault::NotALog { at } => ReplayFault::NotAStore { at },
+        ScanFault::Disk => ReplayFault::Disk,
+        ScanFault::Memory => ReplayFault::Memory,
     }
 }

@@ -1,10 +1,20 @@
-// Making stores.
+// Making stores and reading their journals.
 #![tactic(auto)]
 
+mod bumps;
+mod choose;
+mod enter;
 mod fault;
 mod first;
+mod first_record;
 mod init;
+pub mod laws;
 mod measure;
+mod read;
+mod replay;
+mod round;
+mod snapshot;
 
-pub use fault::InitFault;
+pub use fault::{InitFault, ReplayFault};
 pub use init::init_store;
+pub use read::{Journal, read_journal};

@@ -2,7 +2,7 @@
 use crate::quiet::Quiet;
 use std::alloc::Global;
 use std::test::Fail;
-use wse_disk::MemDisk;
+use wse_disk::{Area, Disk, MemDisk};
 use wse_path::{Bytes, RelPath, Tree};
 
 /// The bytes that stand there in pairs of digits.
@@ -43,4 +43,30 @@ pub fn empty(alloc: Global, fails: Vec<u64>) -> Quiet {
 pub fn with_files(alloc: Global, names: &str) -> Result<Quiet, Fail> {
     let disk = MemDisk::never_failing(alloc, tree(alloc, names)?);
     Ok(Quiet { disk, faults: 0 })
+}
+
+/// The journal of a store over no files in which one edit made the empty file `a`.
+pub const JOURNAL: &str =
+    "57 53 45 4c 4f 47 30 31 a5 00 00 00 19 00 00 00 00 00 00 00 00 00 00 00 00 00 00 00 00 01 \
+    00 00 00 00 00 00 00 00 5a a5 00 00 00 2e 01 00 00 00 02 01 00 00 00 00 00 00 00 01 00 00 00 00 00 00 00 01 \
+    00 00 02 00 00 00 01 01 01 61 00 01 00 00 01 00 00 00 00 07 01 01 61 01 5a 00";
+
+/// The journal of a store whose first state has the element that made `a`.
+pub const ELEMENTS: &str =
+    "57 53 45 4c 4f 47 30 31 a5 00 00 00 43 00 00 00 00 00 00 00 00 01 00 00 00 00 00 00 00 02 \
+    00 00 00 01 01 01 61 00 00 00 01 00 00 00 01 00 00 00 00 00 00 00 01 00 00 00 00 00 00 00 01 00 00 02 \
+    00 00 00 01 01 01 61 00 01 00 00 01 00 00 00 00 5a 00";
+
+/// A disk without files whose areas begin with these bytes.
+pub fn with_areas(alloc: Global, areas: &[(Area, &[u8])]) -> Quiet {
+    let mut disk = empty(alloc, Vec::new(alloc));
+    for (area, bytes) in areas {
+        let _ = disk.area_write(*area, 0, bytes);
+    }
+    disk
+}
+
+/// A disk without files whose first log is these bytes.
+pub fn with_journal(alloc: Global, journal: &[u8]) -> Quiet {
+    with_areas(alloc, &[(Area::LogA, journal)])
 }

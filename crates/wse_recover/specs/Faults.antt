@@ -1,0 +1,10 @@
+-- Faults of reading a journal.
+use Rattle.wse_log.specs.declared.step.ScanFault.{ScanFault}
+use Rattle.wse_log.specs.declared.step.ScanFault.TheVariants as scans
+use Rattle.wse_recover.specs.declared.fault.ReplayFault.{ReplayFault}
+use Rattle.wse_recover.specs.declared.fault.ReplayFault.TheVariants as faults
+
+abbrev pub fault_of_scan : ScanFault → ReplayFault
+fault_of_scan (scans.NotALog at) = faults.NotAStore at
+fault_of_scan scans.Disk = faults.Disk
+fault_of_scan scans.Memory = faults.Memory
