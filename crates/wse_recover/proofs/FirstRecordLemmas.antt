@@ -1,5 +1,5 @@
 -- The first record, from the scan's answer.
-use Rattle.std.proofs.Common.{◌≡◌, inl, inr, ℕ, Bool, true, List, [], Option, Some, None, Result, Ok, Err, refl, sym, subst}
+use Rattle.std.proofs.Common.{◌≡◌, inl, inr, ℕ, Bool, List, [], Option, Some, None, Result, Ok, Err, refl, sym, subst}
 use Rattle.std.specs.Prelude.{IfOk, IfErr}
 use Rattle.wse_disk.specs.declared.area.Area.{Area}
 use Rattle.wse_disk.specs.Reading.{area_of}
@@ -25,7 +25,7 @@ first_read None area body gate settled next begun in_order by there = tt
 first_read (Some s) area body gate settled next begun in_order by there = λ records ending reads. (
   begun_with by.state,
   sym by.same,
-  subst (λ (n : ℕ). IsReplayed records ending n (begun_with by.state) true) (sym there)
+  subst (λ (n : ℕ). IsReplayed records ending n (begun_with by.state) None) (sym there)
       (first_replayed (area_of area s.reading) records ending body gate settled next by.state reads (in_order [] records ending reads refl) by.read by.linked),
 )
 

@@ -11,3 +11,4 @@ pub mod FinishLemmas
 pub mod SnapshotLemmas
 pub mod FirstRecordLemmas
 pub mod JournalLemmas
+pub mod SetsLemmas

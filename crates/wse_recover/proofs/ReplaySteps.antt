@@ -1,6 +1,7 @@
 -- Reading a journal record by record, whatever it reads as.
-use Rattle.std.proofs.Common.{◌≡◌, inl, inr, ℕ, ◌+◌, Bool, true, List, [], ◌∷◌, ◌++◌, length, None, Result, Ok, Err, refl, sym, ap, subst, ◌∙◌, append_assoc, append-nil, take, arith}
+use Rattle.std.proofs.Common.{◌≡◌, inl, inr, ℕ, ◌+◌, Bool, true, List, [], ◌∷◌, ◌++◌, length, Option, Some, None, Result, Ok, Err, refl, sym, ap, subst, ◌∙◌, append_assoc, append-nil, take, arith}
 use Rattle.std.specs.Prelude.{◌==◌}
+use Rattle.std.proofs.lemmas.Bool.{true≢false, eq-eqb}
 use Rattle.std.specs.List.{All}
 use Rattle.std.specs.Option.{option_map_or}
 use Rattle.std.proofs.lemmas.List.Elements.{recursion_from_All}
@@ -19,7 +20,10 @@ use Rattle.wse_log.specs.Writing.{next_gate}
 use Rattle.wse_log.specs.Scan.{answer_behind}
 use Rattle.wse_log.proofs.Fronts.{front-nil, length-front-push}
 use Rattle.wse_txn.specs.Replay.{Replayed, Given, Leaves, NoStoreAt, replayed, kept_in, begun_with, GivesNext, GivesBehind, GivesFirst, Gives}
-use Rattle.wse_txn.specs.Stands.{ends_settled}
+use Rattle.wse_codec.specs.Spelling.{record_bytes}
+use Rattle.wse_element.specs.State.{stacks_of}
+use Rattle.wse_recover.specs.declared.unsettled.Unsettled.{Unsettled}
+use Rattle.wse_recover.specs.Unsettled.{IsKeptOf, IsLast}
 use Rattle.wse_recover.specs.Replaying.{IsReplayed}
 
 -- the answer of a scan, taken apart
@@ -83,7 +87,7 @@ first_settled : (area : List ℕ) (records : List JournalRecord) (ending : Journ
 first_settled area records ending one others reads is =
     (recursion_from_All IsSettled (one ∷ []) (subst (λ (rs : List JournalRecord). All IsSettled (take 1 rs)) is (order_of area records ending reads).first)).0
 
-pub first_replayed : (area : List ℕ) (records : List JournalRecord) (ending : JournalEnd) (body : List ℕ) (gate : ℕ) (settled : Bool) (next : ℕ) (s : Snapshot) → Reads area records ending → Ok (Entry body gate settled next) ≡ answer_behind [] records ending → read_snapshot body ≡ Ok s → IsKeptLinked (kept_in s) → IsReplayed records ending next (begun_with s) true
+pub first_replayed : (area : List ℕ) (records : List JournalRecord) (ending : JournalEnd) (body : List ℕ) (gate : ℕ) (settled : Bool) (next : ℕ) (s : Snapshot) → Reads area records ending → Ok (Entry body gate settled next) ≡ answer_behind [] records ending → read_snapshot body ≡ Ok s → IsKeptLinked (kept_in s) → IsReplayed records ending next (begun_with s) None
 first_replayed area records ending body gate settled next s reads e read linked =
     let found = scanned [] records ending body gate settled next e in
     let eight : gate ≡ 8 = found.gate_is ∙ ap length front-nil in
@@ -99,7 +103,7 @@ first_replayed area records ending body gate settled next s reads e read linked 
           (subst (λ (o : Result Snapshot ℕ). GivesFirst o (λ left. GivesBehind left (next_gate 8 found.one.body) found.others ending given) given)
           (sym (ap read_snapshot found.body_is ∙ read))
           (inl (linked, subst (λ (n : ℕ). GivesBehind (begun_with s) n found.others ending given) place h)));
-      settled = ap (λ m. m == settled_byte) (first_settled area records ending found.one found.others reads found.is);
+      ends = ap (λ m. m == settled_byte) (first_settled area records ending found.one found.others reads found.is);
     }
 
 -- The first record can't be read, or its state isn't linked.
@@ -140,7 +144,7 @@ first_ended area (r ∷ rest) ending gate reads e = cc
 
 -- ---- one record more
 
-module _ (records : List JournalRecord) (ending : JournalEnd) (place : ℕ) (left : Replayed) (last : Bool) (is : IsReplayed records ending place left last) where
+module _ (records : List JournalRecord) (ending : JournalEnd) (place : ℕ) (left : Replayed) (last : Option Unsettled) (is : IsReplayed records ending place left last) where
   module _ (body : List ℕ) (gate : ℕ) (settled : Bool) (next : ℕ) (e : Ok (Entry body gate settled next) ≡ answer_behind is.before is.more ending) where
     same_gate : gate ≡ place
     same_gate = (scanned is.before is.more ending body gate settled next e).gate_is ∙ sym is.gate
@@ -153,8 +157,29 @@ module _ (records : List JournalRecord) (ending : JournalEnd) (place : ℕ) (lef
         (subst (λ (rs : List JournalRecord). GivesBehind left place rs ending given) (sym f.is)
         (subst (λ (b : List ℕ). GivesNext left.kept place (read_effects b) (λ n. GivesBehind n (next_gate place b) f.others ending given) given) (sym f.body_is) h))
 
-    pub more_replayed : (es : List Effect) → read_effects body ≡ Ok es → first_refused_of_kept left.kept es ≡ None → IsReplayed records ending next (replayed left.kept es) settled
-    more_replayed es read may =
+    -- the record behind the others, settled or not
+    last_now : (es : List Effect) (kept : Option Unsettled) → body ≡ record_bytes es → IsKeptOf settled (stacks_of left.kept) es kept
+        → IsLast (is.before ++ (scanned is.before is.more ending body gate settled next e).one ∷ []) (replayed left.kept es) kept
+    last_now es None spelled k =
+        let f = scanned is.before is.more ending body gate settled next e in
+        ap (λ o. option_map_or (λ (r : JournalRecord). r.mark == settled_byte) o true) (last_or_push None is.before f.one) ∙ sym f.mark_is ∙ k
+    last_now es (Some kept) spelled k =
+        let f = scanned is.before is.more ending body gate settled next e in
+        let mark = sym f.mark_is ∙ k.0 in (
+          ap (λ o. option_map_or (λ (r : JournalRecord). r.mark == settled_byte) o true) (last_or_push None is.before f.one) ∙ mark,
+          record {
+            before = is.before;
+            mark = f.one.mark;
+            some = is.some;
+            unsettled = λ same. true≢false (sym (eq-eqb f.one.mark settled_byte same) ∙ mark);
+            all = ap (λ (b : List ℕ). is.before ++ record { body = b; mark = f.one.mark } ∷ []) (f.body_is ∙ spelled ∙ ap record_bytes (sym k.1.effects_are));
+            sets_are = k.1.sets_are;
+          },
+        )
+
+    pub more_replayed : (es : List Effect) (kept : Option Unsettled) → read_effects body ≡ Ok es → body ≡ record_bytes es → first_refused_of_kept left.kept es ≡ None → IsKeptOf settled (stacks_of left.kept) es kept
+        → IsReplayed records ending next (replayed left.kept es) kept
+    more_replayed es kept read spelled may k =
         let f = scanned is.before is.more ending body gate settled next e in
         let there : next ≡ next_gate place body = f.next_is ∙ ap (λ n. next_gate n body) same_gate in
         record {
@@ -167,7 +192,7 @@ module _ (records : List JournalRecord) (ending : JournalEnd) (place : ℕ) (lef
               by_next given
               (subst (λ (o : Result (List Effect) ℕ). GivesNext left.kept place o (λ n. GivesBehind n (next_gate place body) f.others ending given) given) (sym read)
               (inl (may, subst (λ (n : ℕ). GivesBehind (replayed left.kept es) n f.others ending given) there h)));
-          settled = ap (λ o. option_map_or (λ (r : JournalRecord). r.mark == settled_byte) o true) (last_or_push None is.before f.one) ∙ sym f.mark_is;
+          ends = last_now es kept spelled k;
         }
       where
         no_end : (rs : List JournalRecord) (r : JournalRecord) → rs ++ r ∷ [] ≡ [] → ⊥
@@ -188,13 +213,13 @@ module _ (records : List JournalRecord) (ending : JournalEnd) (place : ℕ) (lef
         (subst (λ (o : Result (List Effect) ℕ). GivesNext left.kept place o (λ n. GivesBehind n (next_gate place body) (scanned is.before is.more ending body gate settled next e).others ending (NoStoreAt place)) (NoStoreAt place)) (sym read) (inr (may, refl))))
 
   -- The journal ends, or it is none from here on.
-  pub ended : (gate : ℕ) → Ok (End gate) ≡ answer_behind is.before is.more ending → record { closed : ending ≡ ClosedAt gate; gives : Gives records ending (Leaves left); settled : ends_settled records ≡ last }
+  pub ended : (gate : ℕ) → Ok (End gate) ≡ answer_behind is.before is.more ending → record { closed : ending ≡ ClosedAt gate; gives : Gives records ending (Leaves left); last_is : IsLast records left last }
   ended gate e =
       let found = ends is.more ending e is.goes in
       record {
         closed = found.closed;
         gives = found.gives;
-        settled = ap ends_settled (is.all ∙ ap (λ (rs : List JournalRecord). is.before ++ rs) found.none ∙ append-nil is.before) ∙ is.settled;
+        last_is = subst (λ (rs : List JournalRecord). IsLast rs left last) (sym (is.all ∙ ap (λ (rs : List JournalRecord). is.before ++ rs) found.none ∙ append-nil is.before)) is.ends;
       }
     where
       ends : (more : List JournalRecord) (end : JournalEnd) → Ok (End gate) ≡ answer_behind is.before more end → ((given : Given) → GivesBehind left place more end given → Gives records end given) → record { closed : end ≡ ClosedAt gate; gives : Gives records end (Leaves left); none : more ≡ [] }

@@ -1,5 +1,5 @@
 -- What reading a journal's first record answers.
-use Rattle.std.specs.Prelude.{◌≡◌, ◌⊎◌, ⊤, ℕ, true, ◌+◌, List, Option, Result, Ok, Err}
+use Rattle.std.specs.Prelude.{◌≡◌, ◌⊎◌, ⊤, ℕ, ◌+◌, List, Option, None, Result, Ok, Err}
 use Rattle.wse_element.specs.State.{Kept}
 use Rattle.wse_element.specs.Linked.{IsKeptLinked}
 use Rattle.wse_codec.specs.declared.snapshot.Snapshot.{Snapshot}
@@ -48,7 +48,7 @@ TellsFirstBody body gate faults.Memory = ⊤
 -- The first record is read, and this is what it leaves; or the journal is none of a store, and this is the first place.
 abbrev pub IsFirstRead : List JournalRecord → JournalEnd → Result Begun ReplayFault → Type 0
 IsFirstRead records ending (Ok begun) =
-    (left : Replayed) × (left.kept ≡ held begun.stacks begun.versions) × IsReplayed records ending begun.next left true
+    (left : Replayed) × (left.kept ≡ held begun.stacks begun.versions) × IsReplayed records ending begun.next left None
 IsFirstRead records ending (Err (faults.NotAStore at)) = Gives records ending (NoStoreAt at)
 IsFirstRead records ending (Err faults.Disk) = ⊤
 IsFirstRead records ending (Err faults.Memory) = ⊤

@@ -16,3 +16,5 @@ pub mod Snapshot
 pub mod FirstRecord
 pub mod Choose
 pub mod Journal
+pub mod Sets
+pub mod Unsettled

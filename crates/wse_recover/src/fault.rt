@@ -2,6 +2,7 @@
 ghost use Rattle.std.specs.Prelude.{◌≡◌};
 ghost use Rattle.wse_recover.specs.Faults.{fault_of_scan};
 
+use crate::unsettled::Unsettled;
 use wse_disk::{Disk, Failed, ReadErr};
 use wse_log::ScanFault;
 use wse_path::{Hit, Memory, Which};
@@ -63,11 +64,31 @@ impl From<ReadErr> for Unmade {
     }
 }
 
+/// Why a record's effects aren't entered.
+#[derive(Drop)]
+pub(crate) enum EnterRefused {
+    /// One isn't applicable.
+    NotApplicable,
+    /// There was no memory.
+    Memory,
+}
+
+impl From<Memory> for EnterRefused {
+    ghost use Rattle.std.specs.Prelude.{◌≡◌};
+    ghost use Rattle.wse_recover.specs.declared.fault.EnterRefused.TheVariants as refusals;
+
+    ghost from_gives = { λ _ fault. fault ≡ refusals.Memory };
+
+    fn from(_: Memory) -> EnterRefused {
+        EnterRefused::Memory
+    }
+}
+
 /// What one round read.
 #[derive(Drop)]
 pub enum Round {
-    /// A record. The next piece stands at `next`.
-    Entered { settled: bool, next: u64 },
+    /// A record, and what is kept of it where it isn't settled. The next piece stands at `next`.
+    Entered { last: Option<Unsettled>, next: u64 },
     /// The journal ends: the gate at this place is closed.
     Ended { gate: u64 },
 }

@@ -13,8 +13,11 @@ mod measure;
 mod read;
 mod replay;
 mod round;
+mod sets;
 mod snapshot;
+mod unsettled;
 
 pub use fault::{InitFault, ReplayFault};
 pub use init::init_store;
 pub use read::{Journal, read_journal};
+pub use unsettled::Unsettled;

@@ -1,27 +1,29 @@
 // Reading the journal of a store.
-ghost use Rattle.std.specs.Prelude.{◌≡◌, ◌≤◌, IfOk, IsErrOf};
+ghost use Rattle.std.specs.Prelude.{◌≡◌, ◌≤◌, ◌<◌, ◌^◌, IfOk, IsErrOf};
 ghost use Rattle.wse_path.specs.Causes.{Rose};
 ghost use Rattle.wse_recover.specs.declared.fault.ReplayFault.TheVariants.{Disk};
 ghost use Rattle.wse_recover.specs.Held.{held, AreNumbersBounded};
 ghost use Rattle.wse_recover.specs.Choose.{ReadsChosen};
 ghost use Rattle.wse_recover.specs.Journal.{GivesJournal};
+ghost use Rattle.wse_recover.specs.Unsettled.{MayBeFinished};
 
 use crate::choose::chosen;
 use crate::fault::ReplayFault;
 use crate::first_record::{Begun, read_first};
 use crate::replay::read_rest;
+use crate::unsettled::Unsettled;
 use std::alloc::Global;
 use wse_disk::{Area, Disk};
 use wse_path::Versions;
 use wse_stacks::Stacks;
 
-/// What the chosen journal leaves: its area, the place of its closed gate, whether its last record is settled, and what is
-/// kept.
+/// What the chosen journal leaves: its area, the place of its closed gate, its last record where that isn't settled, and what
+/// is kept, with that record entered.
 #[derive(Drop)]
 pub struct Journal {
     pub area: Area,
     pub gate: u64,
-    pub settled: bool,
+    pub last: Option<Unsettled>,
     pub stacks: Stacks,
     pub versions: Versions,
 }
@@ -32,6 +34,8 @@ pub fn read_journal<D: Disk>(alloc: Global, disk: &mut D) -> Result<Journal, Rep
     ensures chosen { IfOk result (λ journal. ReadsChosen (D.told disk.old) journal.area) }
     ensures gives { GivesJournal (D.told disk.old) result }
     ensures bounded { IfOk result (λ journal. AreNumbersBounded (held journal.stacks journal.versions)) }
+    ensures small { IfOk result (λ journal. journal.gate < 2 ^ 63) }
+    ensures come { IfOk result (λ journal. MayBeFinished journal.last) }
     ensures same { D.told disk.new ≡ D.told disk.old }
     ensures later { D.moment_of disk.old ≤ D.moment_of disk.new }
     ensures count { D.faults disk.old ≤ D.faults disk.new }
@@ -48,7 +52,7 @@ pub fn read_journal<D: Disk>(alloc: Global, disk: &mut D) -> Result<Journal, Rep
     Ok(Journal {
         area,
         gate: end.gate,
-        settled: end.settled,
+        last: end.last,
         stacks,
         versions,
     })

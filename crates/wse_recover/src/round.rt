@@ -5,10 +5,12 @@ ghost use Rattle.wse_recover.specs.Unread.{IsReadAs, TellsUnread};
 ghost use Rattle.wse_path.specs.Causes.{Rose};
 ghost use Rattle.wse_log.specs.Scan.{IsAtPiece};
 ghost use Rattle.wse_recover.specs.Held.{held, AreNumbersBounded};
-ghost use Rattle.wse_recover.specs.Round.{Enters, TellsBody, GivesRound, Rises, place_behind};
+ghost use Rattle.wse_recover.specs.Round.{Enters, TellsBody, GivesRound, Rises, RoundMayBeFinished, place_behind};
+ghost use Rattle.wse_recover.specs.Unsettled.{MayBeFinished};
 
 use crate::enter::enter;
-use crate::fault::{ReplayFault, Round, of_scan};
+use crate::fault::{EnterRefused, ReplayFault, Round, of_scan};
+use crate::unsettled::Unsettled;
 use std::alloc::Global;
 use wse_codec::{RecordRefused, read_record};
 use wse_disk::{Area, Disk};
@@ -32,26 +34,29 @@ fn effects_in(alloc: Global, body: &[u8], gate: u64) -> Result<Effects, ReplayFa
     }
 }
 
-/// Enters what the body behind the gate spells.
+/// Enters what the body behind the gate spells, and answers what is kept of a record that isn't settled.
 pub(crate) fn enter_body(
     alloc: Global,
     stacks: &mut Stacks,
     versions: &mut Versions,
     body: &[u8],
     gate: u64,
-) -> Result<(), ReplayFault>
+    settled: bool,
+) -> Result<Option<Unsettled>, ReplayFault>
     requires room { gate + 6 + length body.now < 2 ^ 63 }
     requires bounded { AreNumbersBounded (held stacks.old versions.old) }
-    ensures entered { OnOk result (Enters (held stacks.old versions.old) body.now (held stacks.new versions.new)) }
+    ensures entered { IfOk result (Enters settled (held stacks.old versions.old) body.now (held stacks.new versions.new)) }
+    ensures come { IfOk result MayBeFinished }
     ensures bounded { OnOk result (AreNumbersBounded (held stacks.new versions.new)) }
     ensures refused { IfErr result (TellsBody (held stacks.old versions.old) body.now gate) }
     ensures cause { IsErrOf result Disk → ⊥ }
 {
     let effects = effects_in(alloc, body, gate)?;
-    if !enter(alloc, stacks, versions, effects)? {
-        return Err(ReplayFault::NotAStore { at: gate });
+    match enter(alloc, stacks, versions, effects, settled) {
+        Ok(last) => Ok(last),
+        Err(EnterRefused::NotApplicable) => Err(ReplayFault::NotAStore { at: gate }),
+        Err(EnterRefused::Memory) => Err(ReplayFault::Memory),
     }
-    Ok(())
 }
 
 /// Reads one piece of the journal behind its first record, and enters it.
@@ -69,6 +74,7 @@ pub fn round<D: Disk>(
     ensures gives { GivesRound (D.told disk.old) area place (held stacks.old versions.old) (held stacks.new versions.new) result }
     ensures goes_on { IfOk result (λ round. IsAtPiece (D.told disk.new) area (place_behind round)) }
     ensures rises { IfOk result (Rises place) }
+    ensures come { IfOk result RoundMayBeFinished }
     ensures bounded { OnOk result (AreNumbersBounded (held stacks.new versions.new)) }
     ensures same { D.told disk.new ≡ D.told disk.old }
     ensures later { D.moment_of disk.old ≤ D.moment_of disk.new }
@@ -88,8 +94,8 @@ pub fn round<D: Disk>(
             settled,
             next,
         } => {
-            enter_body(alloc, stacks, versions, body.as_slice(), gate)?;
-            Ok(Round::Entered { settled, next })
+            let last = enter_body(alloc, stacks, versions, body.as_slice(), gate, settled)?;
+            Ok(Round::Entered { last, next })
         }
     }
 }

@@ -6,11 +6,11 @@ use Rattle.wse_recover.specs.Round.{Enters}
 use Rattle.wse_recover.proofs.RoundLemmas.{round_entered}
 use Rattle.wse_recover.proofs.round.round.Goals as goal
 
-pub returns-in_ok-enter_body-in-Entry-clause-gives : goal.returns-in_ok-enter_body-in-Entry-clause-gives
-returns-in_ok-enter_body-in-Entry-clause-gives g c =
+pub returns-in_ok-last-in-Entry-clause-gives : goal.returns-in_ok-last-in-Entry-clause-gives
+returns-in_ok-last-in-Entry-clause-gives g c =
     let told = g.D.Disk.told c.args.disk.now in
     let old = held c.args.stacks.now c.args.versions.now in
     let new = held c.enter_body.new.stacks c.enter_body.new.versions in
-    round_entered told c.args.area c.args.place old new c.in-Entry.body c.in-Entry.gate c.in-Entry.settled c.in-Entry.next
+    round_entered told c.args.area c.args.place old new c.in-Entry.body c.in-Entry.gate c.in-Entry.settled c.in-Entry.next c.in_ok-last-in-Entry.last
     (subst (λ (step : Step). GivesInOrder told c.args.area c.args.place (Ok step)) c.in-Entry.is c.in-Ok.ensures.in_order)
-    (subst (λ (b : List ℕ). Enters old b new) c.as_slice.ensures c.in_ok-enter_body-in-Entry.ensures.entered)
+    (subst (λ (b : List ℕ). Enters c.in-Entry.settled old b new c.in_ok-last-in-Entry.last) c.as_slice.ensures c.in_ok-last-in-Entry.ensures.entered)
