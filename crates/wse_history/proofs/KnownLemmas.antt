@@ -25,7 +25,7 @@ use Rattle.wse_history.specs.History.{HasNoZero}
 abbrev weight : Path × ℕ → ℕ
 weight e = 32 + length (text_of e.0)
 
-abbrev counted : Numbers → ℕ
+abbrev pub counted : Numbers → ℕ
 counted es = sum_by (λ e. 32 + length (text_of e.0)) es
 
 below_trans : (x y : Path) (es : Numbers) → path_cmp x y ≡ Less → below_all path_cmp y es ≡ true → below_all path_cmp x es ≡ true
@@ -35,7 +35,7 @@ below_trans x y (e ∷ es) l h =
     rw ((lists_total nat_list_cmp_total).trans x y e.0 l (less_so (path_cmp y e.0) parts.0)) (below_trans x y es l parts.1)
 
 -- what a put adds
-abbrev come : Option ℕ → Path → ℕ
+abbrev pub come : Option ℕ → Path → ℕ
 come None p = 32 + length (text_of p)
 come (Some n) p = 0
 
@@ -45,7 +45,7 @@ sum_three a b c = omega arith
 sum_behind : (a b c d : ℕ) → b ≡ c + d → a + b ≡ (a + c) + d
 sum_behind a b c d e = omega (arith, e)
 
-counted_put : (p : Path) (n : ℕ) (es : Numbers) → is_sorted path_cmp es ≡ true → counted (put path_cmp p n es) ≡ counted es + come (find path_cmp p es) p
+pub counted_put : (p : Path) (n : ℕ) (es : Numbers) → is_sorted path_cmp es ≡ true → counted (put path_cmp p n es) ≡ counted es + come (find path_cmp p es) p
 counted_put p n [] s = grind (arith, sum_by-cons (λ (e : Path × ℕ). 32 + length (text_of e.0)) (p, n) [])
 counted_put p n (e ∷ es) s =
     let parts = and_parts (below_all path_cmp e.0 es) (is_sorted path_cmp es) s in

@@ -5,6 +5,7 @@ use Rattle.std.specs.Option.{option_map_or}
 use Rattle.std.proofs.lemmas.Bool.{eqb-true}
 use Rattle.wse_path.specs.Path.{Path}
 use Rattle.wse_path.specs.Tree.{Entries, set_files}
+use Rattle.wse_path.specs.Versions.{Numbers}
 use Rattle.wse_path.specs.declared.change.Numbered.{Numbered}
 use Rattle.wse_path.specs.declared.command.Choice.{Choice}
 use Rattle.wse_path.specs.declared.command.Direction.{Direction}
@@ -12,21 +13,22 @@ use Rattle.wse_path.specs.declared.limits.Limits.{Limits}
 use Rattle.wse_element.specs.declared.effect.Effect.{Effect}
 use Rattle.wse_element.specs.declared.effect.Effect.TheVariants.{Split, Bump}
 use Rattle.wse_element.specs.Record.{Record}
-use Rattle.wse_element.specs.Stacks.{has_id, live_at}
+use Rattle.wse_element.specs.Stacks.{has_id, record_of, live_at}
 use Rattle.wse_element.specs.State.{StacksState, State, stacks_of, kept_of}
-use Rattle.wse_element.specs.Effects.{after, after_each, contents_set, files_after_each}
+use Rattle.wse_element.specs.Effects.{after, after_each, contents_set, files_after_each, versions_after_each, state_after}
 use Rattle.wse_element.specs.Applicable.{may_come}
 use Rattle.wse_element.specs.Linked.{is_numbered, IsTreeLinkedAt}
 use Rattle.wse_element.proofs.FoldLemmas.{files_begun}
 use Rattle.wse_element.proofs.ListLemmas.{find_passes}
 use Rattle.wse_element.proofs.TreeLemmas.{tree_after, parts_of_found}
-use Rattle.wse_rules.specs.Ruling.{closest, one_ruling, ruling}
+use Rattle.wse_rules.specs.Ruling.{all_paths, closest, one_ruling, ruling}
 use Rattle.wse_rules.specs.declared.ruling.Cause.{Cause}
 use Rattle.wse_rules.specs.declared.ruling.Ruling.{Ruling}
 use Rattle.wse_rules.specs.declared.ruling.Ruling.TheVariants as rulings
 use Rattle.wse_history.specs.declared.answer.SplitNote.{SplitNote}
 use Rattle.wse_history.specs.History.{IsHistory}
 use Rattle.wse_history.specs.Moves.{Course, move_effect, ruled, begun_course, first_ruled, move_outcome}
+use Rattle.wse_history.specs.Limits.{hit_of}
 use Rattle.wse_history.specs.Outcome.{Outcome, bump_each}
 use Rattle.wse_history.specs.Step.{recorded, with_locks, left}
 use Rattle.wse_history.proofs.AloneLemmas.{linked_split_state}
@@ -37,7 +39,7 @@ use Rattle.wse_history.proofs.Words.{AreLinked}
 use Rattle.wse_lives.specs.Lives.{Life, lived}
 use Rattle.wse_lives.specs.Events.{fresh}
 use Rattle.wse_lives.specs.After.{left_after, life_of}
-use Rattle.wse_lives.specs.Returns.{Returns}
+use Rattle.wse_lives.specs.Returns.{Returns, moved_among}
 use Rattle.wse_lives.specs.Laws.{UndoOverLives}
 use Rattle.wse_lives.proofs.AdoptLemmas.{adopting_keeps, lives_are_true}
 use Rattle.wse_lives.proofs.DoneLemmas.{IsDone, ruled_done, moved_paths}
@@ -48,18 +50,22 @@ use Rattle.wse_lives.proofs.StayLemmas.{holds_after}
 use Rattle.wse_lives.proofs.StepLemmas.{recorded_is}
 
 -- What an outcome that is done moves: the stacks at which the move comes, which are the state's or those after a split.
-record Moving (s : State) (direction : Direction) (id : ℕ) (o : Outcome) : Type 0 where
-  h : StacksState
-  before : List Effect
-  paths : List Path
-  effects : o.effects ≡ before ++ (move_effect direction id ∷ bump_each paths)
-  locks : o.locks ≡ None
-  here : after_each (now s) before ≡ h
-  still : (files : Entries) → files_after_each (now s) before files ≡ files
-  linked : AreLinked h
-  may : may_come h (move_effect direction id) ≡ true
-  tree : (p : Path) → IsTreeLinkedAt s.files h.records p
-  life : (start : State) (life : Life) (p : Path) → AllByRecursion (IsOfLife start life p) (live_at s.records p) → AllByRecursion (IsOfLife start life p) (live_at h.records p)
+pub record Moving (limits : Limits) (s : State) (direction : Direction) (note : Option SplitNote) (id : ℕ) (o : Outcome) : Type 0 where
+  pub h : StacksState
+  pub before : List Effect
+  pub paths : List Path
+  pub effects : o.effects ≡ before ++ (move_effect direction id ∷ bump_each paths)
+  pub locks : o.locks ≡ None
+  pub among : h.records ≡ moved_among s note
+  pub named : paths ≡ option_map_or all_paths (record_of h.records id) []
+  pub fits : hit_of limits (before ++ (move_effect direction id ∷ bump_each paths)) (state_after s (before ++ (move_effect direction id ∷ bump_each paths))) ≡ None
+  pub here : after_each (now s) before ≡ h
+  pub versions_still : (versions : Numbers) → versions_after_each versions before ≡ versions
+  pub still : (files : Entries) → files_after_each (now s) before files ≡ files
+  pub linked : AreLinked h
+  pub may : may_come h (move_effect direction id) ≡ true
+  pub tree : (p : Path) → IsTreeLinkedAt s.files h.records p
+  pub life : (start : State) (life : Life) (p : Path) → AllByRecursion (IsOfLife start life p) (live_at s.records p) → AllByRecursion (IsOfLife start life p) (live_at h.records p)
 
 piece_of : (f : Record → Ruling) (o : Option Record) (id : ℕ) → option_map_or f o rulings.Nothing ≡ rulings.Go id → record { piece : Record; is : o ≡ Some piece; one : f piece ≡ rulings.Go id }
 piece_of f None id e = cc
@@ -67,17 +73,21 @@ piece_of f (Some r) id e = record { piece = r; is = refl; one = e }
 
 module _ (limits : Limits) (s : State) (by : ℕ) (direction : Direction) (p : Path) (choice : Choice) (note : Option SplitNote) (id : ℕ) (versions : List Numbered) (set : IsHistory s limits) where
   plain_moving : (r : Ruling) → ruling direction s.records s.locks by p choice ≡ r → IsDone limits s (begun_course s direction p) note id versions (ruled limits s (begun_course s direction p) r)
-      → Moving s direction id (ruled limits s (begun_course s direction p) r)
+      → Moving limits s direction note id (ruled limits s (begun_course s direction p) r)
   plain_moving r is done =
       let course = begun_course s direction p in
       let d = ruled_done limits s course note id versions r done in
-      subst (λ x. Moving s direction id (ruled limits s course x)) (sym d.0) (record {
+      subst (λ x. Moving limits s direction note id (ruled limits s course x)) (sym d.0) (record {
         h = now s;
         before = [];
         paths = moved_paths course id;
         effects = d.1.effects;
         locks = d.1.locks;
+        among = ap (moved_among s) d.1.note_is;
+        named = refl;
+        fits = d.1.fits;
         here = refl;
+        versions_still = λ versions. refl;
         still = λ files. refl;
         linked = linked_now limits s set;
         may = goes_here direction s by p choice id (linked_now limits s set) (is ∙ d.0);
@@ -87,7 +97,7 @@ module _ (limits : Limits) (s : State) (by : ℕ) (direction : Direction) (p : P
 
   split_moving : (first : ℕ) (cause : Cause) (files : List Path) → ruling direction s.records s.locks by p choice ≡ rulings.Split first cause files
       → IsDone limits s (begun_course s direction p) note id versions (first_ruled limits s by p (begun_course s direction p) (rulings.Split first cause files))
-      → Moving s direction id (first_ruled limits s by p (begun_course s direction p) (rulings.Split first cause files))
+      → Moving limits s direction note id (first_ruled limits s by p (begun_course s direction p) (rulings.Split first cause files))
   split_moving first cause files is done =
       let told : SplitNote = record { id = first; cause = cause; files = files } in
       let h = split_now s first in
@@ -97,13 +107,17 @@ module _ (limits : Limits) (s : State) (by : ℕ) (direction : Direction) (p : P
       let piece = piece_of (one_ruling s.locks by p) (closest direction h.records p) id d.0 in
       let all = linked_now limits s set in
       let may = splits_may direction (now s) s.locks by p choice first cause files all is in
-      subst (λ x. Moving s direction id (ruled limits s course x)) (sym d.0) (record {
+      subst (λ x. Moving limits s direction note id (ruled limits s course x)) (sym d.0) (record {
         h = h;
         before = Split first s.next_id ∷ [];
         paths = moved_paths course id;
         effects = d.1.effects;
         locks = d.1.locks;
+        among = ap (moved_among s) d.1.note_is;
+        named = refl;
+        fits = d.1.fits;
         here = refl;
+        versions_still = λ vs. refl;
         still = λ fs. refl;
         linked = linked_split_state (now s) first all (positive_of limits s set) may;
         may = piece_goes direction s by p choice first cause files piece.piece id all (positive_of limits s set) is piece.is piece.one;
@@ -111,8 +125,8 @@ module _ (limits : Limits) (s : State) (by : ℕ) (direction : Direction) (p : P
         life = λ start life q these. holds_after q (IsOfLife start life q) (of_life_same start life q) s.records (Split first s.next_id) set.parts tt these;
       })
 
-  first_moving : (r : Ruling) → ruling direction s.records s.locks by p choice ≡ r → IsDone limits s (begun_course s direction p) note id versions (first_ruled limits s by p (begun_course s direction p) r)
-      → Moving s direction id (first_ruled limits s by p (begun_course s direction p) r)
+  pub first_moving : (r : Ruling) → ruling direction s.records s.locks by p choice ≡ r → IsDone limits s (begun_course s direction p) note id versions (first_ruled limits s by p (begun_course s direction p) r)
+      → Moving limits s direction note id (first_ruled limits s by p (begun_course s direction p) r)
   first_moving rulings.Nothing is done = plain_moving rulings.Nothing is done
   first_moving (rulings.Cancelled other) is done = plain_moving (rulings.Cancelled other) is done
   first_moving (rulings.Go other) is done = plain_moving (rulings.Go other) is done
@@ -122,7 +136,7 @@ module _ (limits : Limits) (s : State) (by : ℕ) (direction : Direction) (p : P
 
 -- ---- the files that it leaves
 
-some_behind : (xs : List Effect) (y : Effect) (ys : List Effect) → xs ++ (y ∷ ys) ≢ []
+pub some_behind : (xs : List Effect) (y : Effect) (ys : List Effect) → xs ++ (y ∷ ys) ≢ []
 some_behind [] y ys = λ e. cc
 some_behind (x ∷ xs) y ys = λ e. cc
 
@@ -130,12 +144,12 @@ files_behind : (h : StacksState) (es fs : List Effect) (files : Entries) → fil
 files_behind h [] fs files = refl
 files_behind h (e ∷ es) fs files = files_behind (after h e) es fs (set_files (contents_set h.records e) files)
 
-files_bumps : (h : StacksState) (ps : List Path) (files : Entries) → files_after_each h (bump_each ps) files ≡ files
+pub files_bumps : (h : StacksState) (ps : List Path) (files : Entries) → files_after_each h (bump_each ps) files ≡ files
 files_bumps h [] files = refl
 files_bumps h (p ∷ ps) files = files_bumps (after h (Bump p 1)) ps files
 
-moved_files : (s : State) (direction : Direction) (id : ℕ) (o : Outcome) (m : Moving s direction id o) → (left s o).files ≡ set_files (contents_set m.h.records (move_effect direction id)) s.files
-moved_files s direction id o m =
+pub moved_files : (limits : Limits) (s : State) (direction : Direction) (note : Option SplitNote) (id : ℕ) (o : Outcome) (m : Moving limits s direction note id o) → (left s o).files ≡ set_files (contents_set m.h.records (move_effect direction id)) s.files
+moved_files limits s direction note id o m =
     let rest = move_effect direction id ∷ bump_each m.paths in
     let effects = m.before ++ rest in
     ap (λ locks. (with_locks locks (recorded s o.effects)).files) m.locks
@@ -168,5 +182,5 @@ undo_over_lives limits files events within tree fits known lives by direction pa
       same = eqb-true there.moved.id id (find_passes (has_id id) m.h.records there.moved there.is);
       trees = back.trees;
       came = back.came;
-      each = λ p. subst (λ fs. Returns direction back.trees s.files fs there.moved p) (sym (moved_files s direction id next m)) (back.each p);
+      each = λ p. subst (λ fs. Returns direction back.trees s.files fs there.moved p) (sym (moved_files limits s direction note id next m)) (back.each p);
     }

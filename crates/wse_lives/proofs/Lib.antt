@@ -12,3 +12,4 @@ pub mod GaveLemmas
 pub mod DoneLemmas
 pub mod OverLemmas
 pub mod BackLemmas
+pub mod AgainLemmas

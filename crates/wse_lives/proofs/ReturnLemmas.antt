@@ -41,6 +41,8 @@ goes Forward h id r is may = sym (ap (λ (o : Option Record). option_map_or (may
 pub record MayGo (direction : Direction) (records : List Record) (r : Record) : Type 0 where
   pub parts : AreParts r.parts
   pub whole : is_whole r ≡ true
+  pub stands : stands_for direction r ≡ true
+  pub closes : list_all (λ part. is_closest r.id (closest direction records part.path)) r.parts ≡ true
   pub closest_at : (p : Path) → is_live_at p r ≡ true → closest direction records p ≡ Some r
 
 closest_is : (direction : Direction) (h : StacksState) (id : ℕ) (r : Record) → AreLinked h → record_of h.records id ≡ Some r → list_all (λ part. is_closest r.id (closest direction h.records part.path)) r.parts ≡ true → (p : Path) → is_live_at p r ≡ true → closest direction h.records p ≡ Some r
@@ -54,11 +56,12 @@ closest_is direction h id r all is closes p live =
 pub may_go_is : (direction : Direction) (h : StacksState) (id : ℕ) (r : Record) → AreLinked h → AreParts r.parts → record_of h.records id ≡ Some r → may_come h (move_effect direction id) ≡ true → MayGo direction h.records r
 may_go_is direction h id r all parts is may =
     let both = and_parts (stands_for direction r && is_whole r) (list_all (λ part. is_closest r.id (closest direction h.records part.path)) r.parts) (goes direction h id r is may) in
-    record { parts = parts; whole = (and_parts (stands_for direction r) (is_whole r) both.0).1; closest_at = closest_is direction h id r all is both.1 }
+    let first = and_parts (stands_for direction r) (is_whole r) both.0 in
+    record { parts = parts; whole = first.1; stands = first.0; closes = both.1; closest_at = closest_is direction h id r all is both.1 }
 
 -- ---- what it finds and leaves
 
-valid_there : (p : Path) (r : Record) → is_whole r ≡ true → Found p r → is_valid_at p r ≡ true
+pub valid_there : (p : Path) (r : Record) → is_whole r ≡ true → Found p r → is_valid_at p r ≡ true
 valid_there p r whole found =
     ap (λ (o : Option RecordPart). option_map_or (λ (part : RecordPart). part.valid) o false) found.is
     ∙ (and_parts (is_live found.part.state) found.part.valid (found_passes p r (λ part. is_live part.state && part.valid) whole found)).1

@@ -1,5 +1,5 @@
 -- What holds of the definitions.
-use Rattle.std.specs.Prelude.{◌≡◌, ℕ, List, Option, Some, None, true}
+use Rattle.std.specs.Prelude.{◌≡◌, ◌+◌, ◌<◌, ℕ, List, Option, Some, None, true, false}
 use Rattle.std.specs.List.{AllByRecursion}
 use Rattle.wse_path.specs.Path.{Path}
 use Rattle.wse_path.specs.Tree.{Entries, IsTree}
@@ -13,7 +13,13 @@ use Rattle.wse_path.specs.declared.limits.Limits.{Limits}
 use Rattle.wse_element.specs.Numbers.{is_known_bounded}
 use Rattle.wse_element.specs.Linked.{IsStateLinked}
 use Rattle.wse_element.specs.Record.{Record}
-use Rattle.wse_element.specs.Stacks.{live_at}
+use Rattle.wse_path.specs.Versions.{version_of}
+use Rattle.wse_path.specs.declared.command.Direction.TheVariants.{Back, Forward}
+use Rattle.wse_locks.specs.Locks.{is_held}
+use Rattle.wse_element.specs.Live.{is_live_at}
+use Rattle.wse_element.specs.Stacks.{record_of, live_at}
+use Rattle.wse_rules.specs.Ruling.{all_paths}
+use Rattle.wse_history.specs.Outcome.{numbered}
 use Rattle.wse_element.specs.State.{State}
 use Rattle.wse_apply.specs.Limit.{are_within, limit_hit}
 use Rattle.wse_history.specs.declared.answer.SplitNote.{SplitNote}
@@ -25,7 +31,7 @@ use Rattle.wse_lives.specs.Lives.{Comes, AgreesAt, trees_of}
 use Rattle.wse_lives.specs.Events.{Event, fresh}
 use Rattle.wse_history.specs.History.{IsHistory}
 use Rattle.wse_lives.specs.Adopt.{adopted}
-use Rattle.wse_lives.specs.Returns.{Returns}
+use Rattle.wse_lives.specs.Returns.{Returns, moved_among}
 use Rattle.wse_lives.specs.After.{left_after, life_of, PassesNone, IsLived}
 
 -- A command leaves a sound state, and the records that it pushes say what it did.
@@ -75,3 +81,23 @@ UndoOverLives = (limits : Limits) (files : Entries) (events : List Event) → ar
     → (by : ℕ) (direction : Direction) (path : Path) (choice : Choice) (note : Option SplitNote) (id : ℕ) (versions : List Numbered)
     → (move_outcome limits (left_after limits (fresh files) events) by direction path choice).answer ≡ Move note (ends.Done id versions)
     → GaveBack limits (fresh files) events direction (step limits (left_after limits (fresh files) events) (commands.Move by direction path choice)) id
+
+-- A redo is done, gives the tree of before the undo, the records of just before the record was moved, and versions two higher
+-- at the record's paths and as they were elsewhere.
+pub record GivesAgain (limits : Limits) (s next : State) (by : ℕ) (path : Path) (choice : Choice) (before : List Record) (r : Record) : Type 0 where
+  pub answer : (move_outcome limits next by Forward path choice).answer ≡ Move None (ends.Done r.id (numbered (step limits next (commands.Move by Forward path choice)) (all_paths r)))
+  pub files : (step limits next (commands.Move by Forward path choice)).files ≡ s.files
+  pub records : (step limits next (commands.Move by Forward path choice)).records ≡ before
+  pub raised : (p : Path) → is_live_at p r ≡ true → version_of (step limits next (commands.Move by Forward path choice)).versions p ≡ version_of s.versions p + 2
+  pub kept : (p : Path) → is_live_at p r ≡ false → version_of (step limits next (commands.Move by Forward path choice)).versions p ≡ version_of s.versions p
+
+-- After an undo that is done, a redo at any path of the record, by anyone for whom no path of it is held by somebody else, gives
+-- back what was there, where the serial number is below its limit.
+abbrev pub RedoNext : Type 0
+RedoNext = (limits : Limits) (s : State) → IsHistory s limits → (by : ℕ) (path : Path) (choice : Choice) (note : Option SplitNote) (id : ℕ) (versions : List Numbered)
+    → (move_outcome limits s by Back path choice).answer ≡ Move note (ends.Done id versions)
+    → (r : Record) → record_of (moved_among s note) id ≡ Some r
+    → (again_by : ℕ) (at : Path) (again_choice : Choice) → is_live_at at r ≡ true
+    → ((p : Path) → is_live_at p r ≡ true → is_held (step limits s (commands.Move by Back path choice)).locks again_by p ≡ false)
+    → (step limits s (commands.Move by Back path choice)).serial < limits.serial
+    → GivesAgain limits s (step limits s (commands.Move by Back path choice)) again_by at again_choice (moved_among s note) r

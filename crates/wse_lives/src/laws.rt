@@ -4,7 +4,7 @@ ghost use Rattle.std.specs.List.{AllByRecursion};
 ghost use Rattle.wse_path.specs.Path.{Path};
 ghost use Rattle.wse_element.specs.State.{State};
 ghost use Rattle.wse_element.specs.Stacks.{live_at};
-ghost use Rattle.wse_lives.specs.Laws.{CommandsKeep, FreshIsSound, AdoptingKeeps, LinkedOverLives, UndoOverLives};
+ghost use Rattle.wse_lives.specs.Laws.{CommandsKeep, FreshIsSound, AdoptingKeeps, LinkedOverLives, UndoOverLives, RedoNext};
 ghost use Rattle.wse_lives.specs.Lives.{Life, IsLife, lived, AgreesAt};
 
 /// Each live part of each record has as its old content what its path had before the event that made the record's origin,
@@ -38,4 +38,11 @@ pub fn linked_over_lives()
 /// is a redo), leaves there what that command found (or left), and leaves every other path as it was.
 pub fn undo_over_lives()
     ensures { UndoOverLives }
+{}
+
+/// A redo right after an undo that was done, where nobody else holds a path of its element and the serial number is below its
+/// limit, is done: it gives the tree of before the undo, the records of just before the element was moved, and versions two
+/// higher at the element's paths.
+pub fn redo_next()
+    ensures { RedoNext }
 {}
