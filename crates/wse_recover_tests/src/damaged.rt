@@ -13,17 +13,20 @@ enum Damage {
 // Where the damage is, what it is, and the first place at which the journal is no store's then.
 type Row = (usize, Damage, u64);
 
-const TABLE: [Row; 12] = [
+const TABLE: [Row; 15] = [
     (60, Damage::Cut, 39),
     (39, Damage::Cut, 39),
     (20, Damage::Cut, 8),
     (8, Damage::Cut, 8),
+    (5, Damage::Cut, 5),
     (0, Damage::Cut, 0),
     (44, Damage::Byte(7), 44),
     (0, Damage::Byte(0), 0),
     (57, Damage::Byte(9), 39),
     (8, Damage::Byte(0), 8),
     (38, Damage::Byte(0), 38),
+    (9, Damage::Byte(255), 8),
+    (40, Damage::Byte(255), 39),
     (29, Damage::Byte(0), 8),
     (13, Damage::Byte(1), 13),
 ];

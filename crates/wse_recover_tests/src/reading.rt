@@ -1,6 +1,6 @@
 // Journals that are read.
 use crate::quiet::Quiet;
-use crate::store::{ELEMENTS, JOURNAL, bytes, with_areas, with_journal};
+use crate::store::{ELEMENTS, JOURNAL, bytes, path, with_areas, with_journal};
 use std::alloc::Global;
 use std::test::Fail;
 use wse_disk::Area;
@@ -11,7 +11,7 @@ fn reads(alloc: Global, journal: &[u8], gate: u64, settled: bool) -> bool {
     let mut disk = with_journal(alloc, journal);
     match read_journal(alloc, &mut disk) {
         Ok(journal) => journal.gate == gate
-            && journal.settled == settled
+            && journal.last.is_none() == settled
             && journal.stacks.count() == 1,
         Err(_) => false,
     }
@@ -91,5 +91,43 @@ fn each_is_chosen(alloc: Global) -> Result<bool, Fail> {
 #[test]
 fn the_first_byte_of_the_switch_chooses_the_journal(rt: HostRuntime) -> Result<(), Fail> {
     assert!(rt; each_is_chosen(rt.alloc())?);
+    Ok(())
+}
+
+// A journal whose first state has one element, which made `a` and `b`. Its last record, which isn't settled, splits it, undoes
+// the piece at `b`, and then closes the history of `b`.
+const SPLIT: &str =
+    "57 53 45 4c 4f 47 30 31 a5 00 00 00 56 00 00 00 00 00 00 00 00 01 00 00 00 00 00 00 00 02 \
+    00 00 00 02 01 01 61 00 00 00 01 01 01 62 00 00 00 01 \
+    00 00 00 01 00 00 00 00 00 00 00 01 00 00 00 00 00 00 00 01 00 00 03 \
+    00 00 00 02 01 01 61 00 01 00 00 01 00 00 00 00 01 01 62 00 01 00 00 01 00 00 00 00 5a \
+    a5 00 00 00 24 01 00 00 00 03 04 00 00 00 00 00 00 00 01 00 00 00 00 00 00 00 02 \
+    02 00 00 00 00 00 00 00 03 05 01 01 62 01 00 00";
+
+// Whether finishing the journal's last record sets this path alone, so that it is present then, or absent.
+fn sets_one(alloc: Global, journal: &[u8], name: &str, present: bool) -> Result<bool, Fail> {
+    let mut disk = with_journal(alloc, journal);
+    let Ok(journal) = read_journal(alloc, &mut disk) else {
+        return Ok(false);
+    };
+    let Some(last) = journal.last else {
+        return Ok(false);
+    };
+    let path = path(alloc, name)?;
+    Ok(match last.sets.as_slice() {
+        [set] => set.0.cmp(&path).is_eq() && set.1.is_some() == present,
+        _ => false,
+    })
+}
+
+#[test]
+fn of_a_last_record_that_is_not_settled_is_known_what_it_sets(rt: HostRuntime) -> Result<(), Fail> {
+    let alloc = rt.alloc();
+    let mut made = bytes(alloc, JOURNAL)?;
+    if made.len() > 90 {
+        made[90] = 0;
+    }
+    assert!(rt; sets_one(alloc, &made, "a", true)?);
+    assert!(rt; sets_one(alloc, &bytes(alloc, SPLIT)?, "b", false)?);
     Ok(())
 }
