@@ -4,7 +4,8 @@ use crate::store::{ELEMENTS, JOURNAL, bytes, path, with_areas, with_journal};
 use std::alloc::Global;
 use std::test::Fail;
 use wse_disk::Area;
-use wse_recover::read_journal;
+use wse_path::RelPath;
+use wse_recover::{Unsettled, read_journal};
 
 // Whether the journal is read, ends at this gate with one element, and its last record is settled or not.
 fn reads(alloc: Global, journal: &[u8], gate: u64, settled: bool) -> bool {
@@ -104,19 +105,24 @@ const SPLIT: &str =
     a5 00 00 00 24 01 00 00 00 03 04 00 00 00 00 00 00 00 01 00 00 00 00 00 00 00 02 \
     02 00 00 00 00 00 00 00 03 05 01 01 62 01 00 00";
 
-// Whether finishing the journal's last record sets this path alone, so that it is present then, or absent.
+// Whether the record sets this path alone, so that it is present then, or absent.
+fn is_one(last: &Unsettled, path: &RelPath, present: bool) -> bool {
+    match last.sets.as_slice() {
+        [set] => set.0.cmp(path).is_eq() && set.1.is_some() == present,
+        _ => false,
+    }
+}
+
+// Whether finishing the journal's last record does so.
 fn sets_one(alloc: Global, journal: &[u8], name: &str, present: bool) -> Result<bool, Fail> {
     let mut disk = with_journal(alloc, journal);
-    let Ok(journal) = read_journal(alloc, &mut disk) else {
-        return Ok(false);
-    };
-    let Some(last) = journal.last else {
-        return Ok(false);
-    };
     let path = path(alloc, name)?;
-    Ok(match last.sets.as_slice() {
-        [set] => set.0.cmp(&path).is_eq() && set.1.is_some() == present,
-        _ => false,
+    Ok(match read_journal(alloc, &mut disk) {
+        Ok(journal) => match &journal.last {
+            Some(last) => is_one(last, &path, present),
+            None => false,
+        },
+        Err(_) => false,
     })
 }
 
