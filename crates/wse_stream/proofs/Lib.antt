@@ -1,0 +1,9 @@
+pub mod AckLemmas
+pub mod Answering
+pub mod CauseLemmas
+pub mod MomentLemmas
+pub mod OpenedLemmas
+pub mod PieceLemmas
+pub mod Reading
+pub mod RunLemmas
+pub mod Transcript
