@@ -1,0 +1,63 @@
+// What serving needs of that which answers the lines.
+ghost use Rattle.std.specs.Prelude.{◌≡◌, ◌⊎◌, ◌≤◌, IfOk};
+ghost use Rattle.wse_stream.specs.Machine.{Machine};
+ghost use Rattle.wse_stream.specs.Rests.{Rests, Stretches, StaysTold};
+ghost use Rattle.wse_server.specs.Stopping.{disk_after, StepCause};
+
+use std::alloc::Global;
+use wse_disk::Disk;
+
+/// Why a line wasn't done. The disk is handed back.
+pub enum Stopped<D: Disk> {
+    /// The disk failed: opening it again is the way on.
+    Disk(D),
+    /// There was no memory.
+    Memory(D),
+}
+
+/// A disk and the state for which it stands, at rest between lines. It does what a line says, and gives the text of the
+/// answer. A machine says what that is, by a setting that stays the same from line to line. This project's own.
+pub trait Server<D: Disk> {
+    /// The machine's states.
+    ghost State: { Type 0 };
+
+    /// What stays the same from line to line.
+    ghost Setting: { Type 0 };
+
+    /// What each line is answered and does, and what a disk stands for.
+    ghost machine: { Setting → Machine State };
+
+    ghost setting_of: { Self → Setting };
+
+    /// The state for which the disk stands.
+    ghost state_of: { Self → State };
+
+    /// The disk that it owns.
+    ghost disk_of: { Self → D };
+
+    /// The disk, lent. Takes no memory.
+    fn disk(&self) -> &D
+        ensures { result.now ≡ disk_of self.now };
+
+    /// Hands the disk back. Takes no memory.
+    fn into_disk(self) -> D
+        ensures { result ≡ disk_of self };
+
+    /// Does what the line with the number `n` says, and gives the bytes of its answer. A crash at any moment leaves a disk that
+    /// stands for the state before the line or for the one after it, where the disk fails too.
+    fn line(self, alloc: Global, n: u64, line: &[u8]) -> Result<(Self, Vec<u8>), Stopped<D>>
+        ensures same { IfOk result (λ done. setting_of done.0 ≡ setting_of self) }
+        ensures state { IfOk result (λ done. state_of done.0
+            ≡ (machine (setting_of self)).after (state_of self) line.now) }
+        ensures text { IfOk result (λ done. done.1.items
+            ≡ (machine (setting_of self)).answer n (state_of self) line.now) }
+        ensures images { Stretches (D.told (disk_of self)) (D.told (disk_after disk_of result))
+            (λ image. (machine (setting_of self)).stands (state_of self) image
+            ⊎ (machine (setting_of self)).stands ((machine (setting_of self)).after (state_of self) line.now) image) }
+        ensures told { IfOk result (λ done. StaysTold (D.told (disk_of self)) (D.told (disk_of done.0))) }
+        ensures later { D.moment_of (disk_of self) ≤ D.moment_of (disk_after disk_of result) }
+        ensures cause { StepCause D.faults disk_of self result };
+
+    // Nothing is pending, and what is read stands for the state.
+    ghost rests: { (s : Self) → Rests (D.told (disk_of s)) ((machine (setting_of s)).stands (state_of s)) };
+}
