@@ -1,0 +1,4 @@
+pub mod LeftLemmas
+pub mod StandLemmas
+pub mod StepLemmas
+pub mod EngineLemmas

@@ -1,0 +1,7 @@
+// A disk and the history that it stands for: one crash-safe step for each command.
+#![tactic(auto)]
+
+mod engine;
+mod exec;
+
+pub use engine::{Engine, ExecFault};
