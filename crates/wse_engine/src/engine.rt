@@ -42,7 +42,7 @@ pub enum ExecFault<D: Disk> {
 
 impl<D: Disk> Engine<D> {
     /// The engine of a disk at rest and the history of the state that it stands for.
-    pub(crate) fn of(idle: Idle<D>, history: History) -> Engine<D>
+    pub fn of(idle: Idle<D>, history: History) -> Engine<D>
         requires { IsEngine (D.told idle.disk) idle.area idle.gate history.state }
         ensures { result ≡ record {
           disk = idle.disk;

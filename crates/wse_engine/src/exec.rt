@@ -1,11 +1,11 @@
 // One command.
-ghost use Rattle.std.specs.Prelude.{◌≡◌, ◌≢◌, true, [], IfOk, IfErr};
+ghost use Rattle.std.specs.Prelude.{◌≡◌, ◌≢◌, [], IfOk, IfErr};
 ghost use Rattle.wse_disk.specs.Told.{WhereTold, IsTold, IsAtRest};
 ghost use Rattle.wse_txn.specs.Command.{StandsForOneOf};
 ghost use Rattle.wse_txn.specs.Outcomes.{FailsByFault, KeepsMoments, Leaves, TellsAsBefore};
 ghost use Rattle.wse_txn.specs.Stands.{StandsFor};
 ghost use Rattle.wse_history.specs.Step.{step};
-ghost use Rattle.wse_history.specs.Planning.{is_planned, MayRecord, committed, entries_of};
+ghost use Rattle.wse_history.specs.Planning.{MayRecord, committed, entries_of};
 ghost use Rattle.wse_engine.specs.Engine.{IsEngine};
 ghost use Rattle.wse_engine.specs.Exec.{outcome_in, IsStep, FailsExec, ExecLeaves, ExecGoesOn, ExecKeeps};
 ghost use Rattle.wse_engine.specs.Doing.{MayBeWritten, HasEntered, HasDone};
@@ -93,7 +93,6 @@ impl<D: Disk> Engine<D> {
     /// A crash at any moment leaves a disk that stands for the state before the command or for the one after it, where the
     /// disk fails too. This project's own rule.
     pub fn exec(self, alloc: Global, command: &Command) -> Result<(Engine<D>, Answer), ExecFault<D>>
-        requires built { is_planned command.now ≡ true }
         ensures step { IfOk result (λ done. IsStep self command.now done.0 done.1) }
         ensures stands { IfOk result (λ done. WhereTold (D.told done.0.disk) (λ t. StandsFor done.0.state t.reading)) }
         ensures rests { IfOk result (λ done. IsAtRest (D.told done.0.disk)) }
