@@ -12,3 +12,6 @@ pub mod SnapshotLemmas
 pub mod FirstRecordLemmas
 pub mod JournalLemmas
 pub mod SetsLemmas
+pub mod LoadLemmas
+pub mod SettingLemmas
+pub mod DifferLemmas

@@ -18,3 +18,5 @@ pub mod Choose
 pub mod Journal
 pub mod Sets
 pub mod Unsettled
+pub mod Load
+pub mod Differing

@@ -2,13 +2,17 @@
 #![tactic(auto)]
 
 mod bumps;
+mod changes;
 mod choose;
+mod differing;
 mod enter;
 mod fault;
 mod first;
 mod first_record;
+mod in_the_way;
 mod init;
 pub mod laws;
+mod load;
 mod measure;
 mod read;
 mod replay;
