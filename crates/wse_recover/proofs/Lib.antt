@@ -15,3 +15,4 @@ pub mod SetsLemmas
 pub mod LoadLemmas
 pub mod SettingLemmas
 pub mod DifferLemmas
+pub mod FinishedLemmas

@@ -20,3 +20,4 @@ pub mod Sets
 pub mod Unsettled
 pub mod Load
 pub mod Differing
+pub mod Finish

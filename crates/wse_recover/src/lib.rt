@@ -7,6 +7,7 @@ mod choose;
 mod differing;
 mod enter;
 mod fault;
+mod finish;
 mod first;
 mod first_record;
 mod in_the_way;
