@@ -104,14 +104,14 @@ ordered p xs new e h =
 order_of : (p : Path) (records : List Record) → IsLinkedAt records p → in_order p (live_at records p) ≡ true
 order_of p records linked = λ i. linked.done_first i && linked.invalid_first i && linked.meet i
 
-push_there : (records : List Record) (x : Record) (p : Path) → is_live_at p x ≡ true → live_at (records ++ x ∷ []) p ≡ live_at records p ++ x ∷ []
+pub push_there : (records : List Record) (x : Record) (p : Path) → is_live_at p x ≡ true → live_at (records ++ x ∷ []) p ≡ live_at records p ++ x ∷ []
 push_there records x p live = live_at_push records x p ∙ ap (λ b. live_at records p ++ cond b (x ∷ []) []) live
 
 append_none : {X : Type 0} (xs : List X) → xs ++ [] ≡ xs
 append_none [] = refl
 append_none (x ∷ xs) = ap (λ ys. x ∷ ys) (append_none xs)
 
-push_elsewhere : (records : List Record) (x : Record) (p : Path) → is_live_at p x ≡ false → live_at (records ++ x ∷ []) p ≡ live_at records p
+pub push_elsewhere : (records : List Record) (x : Record) (p : Path) → is_live_at p x ≡ false → live_at (records ++ x ∷ []) p ≡ live_at records p
 push_elsewhere records x p away = live_at_push records x p ∙ ap (λ b. live_at records p ++ cond b (x ∷ []) []) away ∙ append_none (live_at records p)
 
 linked_behind : (records : List Record) (x : Record) (p : Path) → IsLinkedAt records p → fits_at records x p ≡ true → IsLinkedAt (records ++ x ∷ []) p

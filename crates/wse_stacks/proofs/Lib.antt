@@ -6,5 +6,6 @@ pub mod WeighLemmas
 pub mod LookLemmas
 pub mod TurnLemmas
 pub mod PathLemmas
+pub mod IndexedLemmas
 pub mod SeenLemmas
 pub mod PreparedLemmas

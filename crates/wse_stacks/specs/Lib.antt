@@ -1,5 +1,6 @@
 pub mod Image
 pub mod Fits
+pub mod Indexed
 pub mod Stacks
 pub mod Turns
 pub mod Prepared

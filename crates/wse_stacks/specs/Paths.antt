@@ -1,16 +1,12 @@
 -- The paths at which records are live. This project's own rule.
-use Rattle.std.specs.Prelude.{◌≡◌, Bool, true, List, map, is_some}
+use Rattle.std.specs.Prelude.{◌≡◌, true, List, map}
 use Rattle.std.specs.List.{list_any}
 use Rattle.std.specs.FinMap.{is_sorted}
 use Rattle.wse_path.specs.Path.{Path}
 use Rattle.wse_path.specs.Order.{path_cmp, is_named}
-use Rattle.wse_path.specs.PathMap.{value_at}
 use Rattle.wse_path.specs.Versions.{Numbers}
 use Rattle.wse_element.specs.Record.{Record}
 use Rattle.wse_element.specs.Live.{is_live_at}
-
-abbrev pub has_entry : Numbers → Path → Bool
-has_entry entries p = is_some (value_at entries p)
 
 -- The paths as entries.
 abbrev pub keyed : List Path → Numbers

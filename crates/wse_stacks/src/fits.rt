@@ -5,8 +5,7 @@ ghost use Rattle.std.specs.Option.{option_copied};
 ghost use Rattle.wse_element.specs.Linked.{is_numbered, meet_at};
 ghost use Rattle.wse_stacks.specs.Fits.{fits_after, fits_at, fits};
 
-use crate::entry::Entry;
-use crate::search::{has_id, last_live};
+use crate::indexed::Indexed;
 use wse_element::Element;
 use wse_path::RelPath;
 
@@ -39,28 +38,28 @@ fn fits_after(path: &RelPath, element: &Element, last: Option<&Element>) -> bool
     }
 }
 
-fn fits_at(entries: &[Entry], element: &Element, path: &RelPath) -> bool
-    ensures { result ≡ fits_at entries.now element.now path.now }
+fn fits_at(before: &Indexed, element: &Element, path: &RelPath) -> bool
+    ensures { result ≡ fits_at before.now element.now path.now }
 {
-    !element.is_live_at(path) || fits_after(path, element, last_live(entries, path))
+    !element.is_live_at(path) || fits_after(path, element, before.last_live(path))
 }
 
-fn fits_each(entries: &[Entry], element: &Element) -> bool
-    ensures { result ≡ list_all (λ part. fits_at entries.now element.now part.path) element.now.parts }
+fn fits_each(before: &Indexed, element: &Element) -> bool
+    ensures { result ≡ list_all (λ part. fits_at before.now element.now part.path) element.now.parts }
 {
     element
         .parts()
         .iter()
-        .all(|part| fits_at(entries, element, part.path()))
+        .all(|part| fits_at(before, element, part.path()))
 }
 
 /// Whether the element fits behind these, which are linked, where this is the next free id.
-pub(crate) fn fits(entries: &[Entry], element: &Element, next_id: u64) -> bool
-    ensures { result ≡ fits next_id entries.now element.now }
+pub(crate) fn fits(before: &Indexed, element: &Element, next_id: u64) -> bool
+    ensures { result ≡ fits next_id before.now element.now }
 {
-    !has_id(entries, element.id())
+    !before.has_id(element.id())
         && is_numbered(element, next_id)
         && element.has_live()
         && element.is_apart()
-        && fits_each(entries, element)
+        && fits_each(before, element)
 }

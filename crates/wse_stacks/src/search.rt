@@ -3,8 +3,7 @@ ghost use Rattle.std.specs.Prelude.{◌≡◌, not, ◌&&◌, reverse, find};
 ghost use Rattle.std.specs.List.{list_any};
 ghost use Rattle.std.specs.Option.{option_copied};
 ghost use Rattle.wse_element.specs.Live.{is_live_at, is_valid_at};
-ghost use Rattle.wse_element.specs.Stacks.{has_id, record_of, closest_past, closest_future};
-ghost use Rattle.wse_stacks.specs.Fits.{last_live};
+ghost use Rattle.wse_element.specs.Stacks.{record_of, closest_past, closest_future};
 
 use crate::entry::Entry;
 use wse_element::Element;
@@ -30,29 +29,6 @@ pub(crate) fn record_of(entries: &[Entry], id: u64) -> Option<&Element>
     ensures { option_copied result ≡ record_of entries.now id }
 {
     element_of(entry_of(entries, id))
-}
-
-/// Whether an element has the id.
-pub(crate) fn has_id(entries: &[Entry], id: u64) -> bool
-    ensures { result ≡ list_any (has_id id) entries.now }
-{
-    entries.iter().any(|entry| entry.element().id() == id)
-}
-
-fn last_live_entry<'a>(entries: &'a [Entry], path: &RelPath) -> Option<&'a Entry>
-    ensures { option_copied result ≡ find (is_live_at path.now) (reverse entries.now) }
-{
-    entries
-        .iter()
-        .rev()
-        .find(|entry| entry.element().is_live_at(path))
-}
-
-/// The last element that is live at the path.
-pub(crate) fn last_live<'a>(entries: &'a [Entry], path: &RelPath) -> Option<&'a Element>
-    ensures { option_copied result ≡ last_live entries.now path.now }
-{
-    element_of(last_live_entry(entries, path))
 }
 
 fn past_entry<'a>(entries: &'a [Entry], path: &RelPath) -> Option<&'a Entry>

@@ -6,7 +6,7 @@ ghost use Rattle.wse_path.specs.Path.{Path};
 ghost use Rattle.wse_path.specs.PathMap.{capped};
 ghost use Rattle.wse_element.specs.Live.{is_valid_at};
 ghost use Rattle.wse_element.specs.Stacks.{closest_past, closest_future, record_of};
-ghost use Rattle.wse_element.specs.Effects.{left_by};
+ghost use Rattle.wse_element.specs.Effects.{contents_set, left_by};
 ghost use Rattle.wse_element.specs.Numbers.{is_bounded};
 ghost use Rattle.wse_element.specs.Linked.{IsLinked};
 ghost use Rattle.wse_element.specs.Applicable.{AreApplicable};
@@ -24,11 +24,12 @@ use crate::prepared::Prepared;
 use crate::records::Records;
 use crate::refused::{ReserveRefused, StacksRefused};
 use crate::search::{closest_future, closest_past, is_valid_at, record_of};
+use crate::sets::contents_set;
 use crate::weigh::weight_after;
 use std::alloc::Global;
 use std::marker::Model;
 use wse_element::{Effect, Effects, Element, Elements};
-use wse_path::{Files, Memory, RelPath, Versions};
+use wse_path::{Bytes, Files, Memory, RelPath, Versions};
 
 /// The past and the future of each path, read from one list of elements in order of making, which fit one another. This
 /// project's own rule. Contracts see the list, the next free id and the serial number, how often each path's history turned,
@@ -205,6 +206,17 @@ impl Stacks {
         ensures { IfOk result (AreLivePaths self.now.state.records) }
     {
         live_paths(self.records.as_slice(), alloc)
+    }
+
+    /// The paths that the effect sets in the tree, each with the content that it has then. None: no file is there then.
+    pub fn contents_set(
+        &self,
+        alloc: Global,
+        effect: &Effect,
+    ) -> Result<Vec<(RelPath, Option<Bytes>)>, Memory>
+        ensures { IfOk result (λ set. set.items ≡ contents_set self.now.state.records effect.now) }
+    {
+        contents_set(self.records.as_slice(), alloc, effect)
     }
 
     /// Prepares all memory for this list of effects, which are those of one command, and for no other list. After a refusal

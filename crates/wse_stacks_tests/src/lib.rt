@@ -26,6 +26,8 @@ mod rules;
 #[cfg(test)]
 mod same;
 #[cfg(test)]
+mod sets;
+#[cfg(test)]
 mod words;
 #[cfg(test)]
 mod world;

@@ -1,6 +1,7 @@
 // Scenarios: lines that change the stacks, or say what they tell.
 use crate::effects::effects;
 use crate::given::{number, path};
+use crate::sets::sets;
 use std::alloc::Global;
 use std::test::Fail;
 use wse_element::{Effect, Effects, Elements, PartState};
@@ -143,6 +144,7 @@ fn line_holds(stacks: &mut Stacks, alloc: Global, line: &str) -> Result<bool, Fa
         "turns" => has_turned(stacks, alloc, rest),
         "ids" => Ok(has_ids(stacks, rest)),
         "paths" => has_paths(stacks, alloc, rest),
+        "sets" => sets(stacks, alloc, rest),
         "next" => Ok(stacks.next_id() == number(rest)),
         "serial" => Ok(stacks.serial() == number(rest)),
         "weight" => Ok(stacks.weight() == number(rest)),

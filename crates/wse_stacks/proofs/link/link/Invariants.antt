@@ -5,6 +5,6 @@ use Rattle.wse_stacks.proofs.link.link.Given as goal
 abbrev pub invariant-loop-element : goal.invariant-loop-element
 invariant-loop-element l = record {
   all : l.fn.elements ≡ l.yielded ++ l.element-iterator.rest.items;
-  records : l.records ≡ l.yielded;
+  records : l.linked ≡ l.yielded;
   linked : IsLinked l.next_id l.yielded;
 }

@@ -1,13 +1,14 @@
-use Rattle.std.proofs.Common.{sym, ap, ◌∙◌}
-use Rattle.std.specs.FinMap.{put}
+use Rattle.std.proofs.Common.{true, cond, sym, ap, ◌∙◌}
+use Rattle.std.specs.BTreeSet.{contains}
+use Rattle.std.specs.Ordering.{eq_by_cmp}
 use Rattle.wse_path.specs.Path.{Path}
 use Rattle.wse_path.specs.Order.{path_cmp}
-use Rattle.wse_path.specs.Versions.{Numbers}
-use Rattle.wse_stacks.specs.Paths.{has_entry}
 use Rattle.wse_stacks.proofs.PathLemmas.{has_put}
 use Rattle.wse_stacks.proofs.paths.put_live.Goals as goal
 
-pub returns-in_ok-put : goal.returns-in_ok-put
-returns-in_ok-put c = λ p.
-    ap (λ (es : Numbers). has_entry es p) (c.in_ok-put.ensures.ok ∙ ap (λ (q : Path). put path_cmp q 0 c.args.found.now.entries) (c.in_ok-duplicate.ensures ∙ c.path.ensures))
-    ∙ has_put c.args.found.now.entries c.args.part.now p (sym c.is_live.ensures ∙ c.if-is_live.true)
+pub returns-in_ok-insert : goal.returns-in_ok-insert
+returns-in_ok-insert c = λ p.
+    let was = contains path_cmp c.args.found.now p in
+    c.in_ok-insert.ensures.updates.0 p
+    ∙ ap (λ (q : Path). cond (eq_by_cmp path_cmp q p) true was) (c.in_ok-duplicate.ensures ∙ c.path.ensures)
+    ∙ has_put was c.args.part.now p (sym c.is_live.ensures ∙ c.if-is_live.true)
