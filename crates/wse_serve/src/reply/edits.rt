@@ -16,7 +16,7 @@ fn versions_value(alloc: Global, changed: &[Numbered]) -> Result<Value, Memory>
 {
     let mut members = Map::new(alloc);
     for one in changed {
-        let text = String::from_str(alloc, one.path.text(alloc)?.as_str())?;
+        let text = one.path.text(alloc)?.into_string();
         members.insert(text, Value::from(one.number))?;
     }
     Ok(Value::Object(members))

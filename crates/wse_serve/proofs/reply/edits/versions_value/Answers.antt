@@ -9,9 +9,9 @@ use Rattle.wse_serve.proofs.reply.edits.versions_value.Goals as goal
 
 pub loop-one-preserved : goal.loop-one-preserved
 loop-one-preserved c =
-    rw c.in_ok-insert.ensures.entries (versions_step c.args.changed.now c.loop-one.one-index c.one-item.result c.loop-one.members.entries c.in_ok-text-2.text c.from.result
+    rw c.in_ok-insert.ensures.entries (versions_step c.args.changed.now c.loop-one.one-index c.one-item.result c.loop-one.members.entries c.into_string-text.result c.from.result
     c.loop-one-test.true c.loop-one.invariant
-    (c.in_ok-text-2.ensures.ok ∙ c.as_str-in-loop-one.ensures ∙ c.in_ok-text.ensures ∙ ap (λ (b : Numbered). text_of b.path) c.one-item.is)
+    (c.into_string-text.ensures ∙ c.in_ok-text.ensures ∙ ap (λ (b : Numbered). text_of b.path) c.one-item.is)
     (c.from.ensures ∙ ap (λ (b : Numbered). number (unsigned b.number)) c.one-item.is))
 
 pub returns : goal.returns
