@@ -14,11 +14,7 @@ pub fn try_path(alloc: Global, segments: &[&str]) -> Result<Result<RelPath, Path
 
 /// The path with that text.
 pub fn path(alloc: Global, text: &str) -> Result<RelPath, Fail> {
-    let mut all = Vec::new(alloc);
-    for segment in text.split('/') {
-        all.push(String::from_str(alloc, segment)?)?;
-    }
-    Ok(RelPath::new(all)?)
+    Ok(RelPath::from_text(alloc, text)?)
 }
 
 /// The paths whose texts stand between spaces.
@@ -71,4 +67,21 @@ pub fn has_paths(alloc: Global, tree: &Tree, texts: &str) -> Result<bool, Fail> 
         }
     }
     Ok(tree.count() == wanted.len())
+}
+
+/// Takes the file away, and answers whether it was there and isn't any more.
+pub fn remove(alloc: Global, tree: &mut Tree, text: &str) -> Result<bool, Fail> {
+    let file = path(alloc, text)?;
+    Ok(tree.remove(&file) && tree.get(&file).is_none())
+}
+
+/// Puts an empty file into room that was made for it.
+pub fn put_in_room(alloc: Global, tree: &mut Tree, text: &str) -> Result<bool, Fail> {
+    let file = path(alloc, text)?;
+    tree.reserve(1)?;
+    if !tree.fits(&file) {
+        return Ok(false);
+    }
+    tree.put_reserved(file, bytes(alloc, "")?);
+    Ok(true)
 }
