@@ -1,0 +1,64 @@
+// A server that echoes each line behind the one before it.
+ghost use Rattle.std.specs.Prelude.{◌≡◌, ◌++◌, ◌∷◌, [], IfOk};
+
+use std::alloc::Global;
+use wse_path::Memory;
+use wse_quiet_disk::QuietDisk;
+use wse_server::{Server, Stopped};
+
+pub struct Echo {
+    pub disk: QuietDisk,
+    pub last: Vec<u8>,
+}
+
+impl Server<QuietDisk> for Echo {
+    ghost use Rattle.std.specs.Prelude.{List, ℕ};
+    ghost use Rattle.wse_server_tests.specs.Echo.{echo};
+
+    ghost State = { List ℕ };
+
+    ghost Setting = { Unit {0} };
+
+    ghost machine = { λ _. echo };
+
+    ghost setting_of = { λ _. tt };
+
+    ghost state_of = { λ server. server.last.items };
+
+    ghost disk_of = { λ server. server.disk };
+
+    ghost rests = { λ server. record { at_rest = λ image left. absurd left; reads = tt } };
+
+    fn disk(&self) -> &QuietDisk {
+        &self.disk
+    }
+
+    fn into_disk(self) -> QuietDisk {
+        let Echo { disk, last: _ } = self;
+        disk
+    }
+
+    fn line(
+        self,
+        alloc: Global,
+        _n: u64,
+        line: &[u8],
+    ) -> Result<(Echo, Vec<u8>), Stopped<QuietDisk>> {
+        let Echo { disk, last } = self;
+        match echoed(alloc, last, line) {
+            Ok((last, text)) => Ok((Echo { disk, last }, text)),
+            Err(Memory) => Err(Stopped::Memory(disk)),
+        }
+    }
+}
+
+// A copy of the line, and the answer.
+fn echoed(alloc: Global, last: Vec<u8>, line: &[u8]) -> Result<(Vec<u8>, Vec<u8>), Memory>
+    ensures copy { IfOk result (λ both. both.0.items ≡ line.now) }
+    ensures text { IfOk result (λ both. both.1.items ≡ last.items ++ line.now ++ 10 ∷ []) }
+{
+    let mut text = last;
+    text.extend_from_slice(line)?;
+    text.push(b'\n')?;
+    Ok((line.to_vec(alloc)?, text))
+}
