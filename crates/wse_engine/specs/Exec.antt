@@ -38,7 +38,7 @@ disk_left disk_of (Err fault) = disk_in fault
 -- Without memory the engine is as it was. A fault of the disk raised its count.
 abbrev pub FailsExec : {D : Type 0} → (D → ℕ) → EngineNow D → ExecFault D → Type 0
 FailsExec count old (faults.Memory engine) = engine ≡ old
-FailsExec count old (faults.Disk disk) = Rose (count old.disk) (count disk)
+FailsExec count old (faults.Disk disk) = (count old.disk ≤ count disk) × Rose (count old.disk) (count disk)
 
 -- Whether it fails or not, a crash at any moment of it leaves what has the property.
 abbrev pub ExecLeaves : {D A : Type 0} → (D → Option Standing) → (A → D) → D → Result A (ExecFault D) → (Reading → Type 0) → Type 0

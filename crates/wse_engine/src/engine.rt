@@ -65,9 +65,10 @@ impl<D: Disk> Engine<D> {
         &self.history
     }
 
-    /// The disk. Takes no memory.
+    /// The disk, on which nothing is pending. Takes no memory.
     pub fn disk(&self) -> &D
-        ensures { result.now ≡ self.now.disk }
+        ensures disk { result.now ≡ self.now.disk }
+        ensures stands { IsEngine (D.told self.now.disk) self.now.area self.now.gate self.now.state }
     {
         self.idle.disk()
     }

@@ -35,9 +35,10 @@ pub trait Server<D: Disk> {
     /// The disk that it owns.
     ghost disk_of: { Self → D };
 
-    /// The disk, lent. Takes no memory.
+    /// The disk, lent: nothing is pending on it, and what is read stands for the state. Takes no memory.
     fn disk(&self) -> &D
-        ensures { result.now ≡ disk_of self.now };
+        ensures disk { result.now ≡ disk_of self.now }
+        ensures rests { Rests (D.told (disk_of self.now)) ((machine (setting_of self.now)).stands (state_of self.now)) };
 
     /// Hands the disk back. Takes no memory.
     fn into_disk(self) -> D
@@ -57,7 +58,4 @@ pub trait Server<D: Disk> {
         ensures told { IfOk result (λ done. StaysTold (D.told (disk_of self)) (D.told (disk_of done.0))) }
         ensures later { D.moment_of (disk_of self) ≤ D.moment_of (disk_after disk_of result) }
         ensures cause { StepCause D.faults disk_of self result };
-
-    // Nothing is pending, and what is read stands for the state.
-    ghost rests: { (s : Self) → Rests (D.told (disk_of s)) ((machine (setting_of s)).stands (state_of s)) };
 }

@@ -3,7 +3,7 @@ ghost use Rattle.std.specs.Prelude.{◌≡◌, ◌≤◌, ◌∷◌, ◌^◌, []
 ghost use Rattle.wse_io.specs.Stream.{Piece, Adds, bytes_of};
 ghost use Rattle.wse_stream.specs.Machine.{transcript};
 ghost use Rattle.wse_stream.specs.Scene.{disk_at, scene, faults};
-ghost use Rattle.wse_stream.specs.Rests.{StaysTold};
+ghost use Rattle.wse_stream.specs.Rests.{Rests, StaysTold};
 ghost use Rattle.wse_stream.specs.Run.{Ran};
 ghost use Rattle.wse_stream.specs.Runs.{Runs, HasCauses};
 ghost use Rattle.wse_server.specs.Stopping.{stopped_disk};
@@ -78,6 +78,8 @@ pub fn serve_one<D: Disk, R: Server<D>, K: Sink>(
     ensures next { IfOk result (λ next. R.state_of next
         ≡ (R.machine (R.setting_of server)).after (R.state_of server) line.now) }
     ensures told { IfOk result (λ next. StaysTold (D.told (R.disk_of server)) (D.told (R.disk_of next))) }
+    ensures rests { IfOk result (λ next. Rests (D.told (R.disk_of next))
+        ((R.machine (R.setting_of next)).stands (R.state_of next))) }
     ensures cause { OneCause D.faults R.disk_of server (K.faults out.old) (K.faults out.new) result }
 {
     let (server, text) = match server.line(alloc, n, line) {
@@ -141,6 +143,7 @@ pub fn serve<D: Disk, R: Server<D>, S: Source, K: Sink>(
         (faults (S.faults source.new) (K.faults out.new) (D.faults result.disk)) }
 {
     let mut lines = Lines::new(alloc, usize::MAX, max_input);
+    let _ = server.disk();
     let mut server = server;
     let mut n = 1;
     loop {

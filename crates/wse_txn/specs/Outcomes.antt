@@ -6,11 +6,11 @@ use Rattle.wse_disk.specs.Standing.{Standing}
 use Rattle.wse_disk.specs.Told.{IsTold}
 use Rattle.wse_disk.specs.LeavesOnly.{LeavesOnly}
 
--- A step fails only where the count of faults rose in it, and else the count is as it was.
+-- A step fails only where the count of faults rose in it, and else the count is as it was. It never falls.
 abbrev pub FailsByFault : {D A : Type 0} → (D → ℕ) → (A → D) → D → Result A D → Type 0
 FailsByFault faults disk_of old result = MatchResult result
     (λ next. faults (disk_of next) ≡ faults old)
-    (λ broken. Rose (faults old) (faults broken))
+    (λ broken. (faults old ≤ faults broken) × Rose (faults old) (faults broken))
 
 -- Whether it fails or not, no moment is lost.
 abbrev pub KeepsMoments : {D A : Type 0} → (D → ℕ) → (A → D) → D → Result A D → Type 0

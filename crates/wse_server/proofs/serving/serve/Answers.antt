@@ -32,7 +32,7 @@ loop-line-init g c =
         [],
         reads_none _ c.new-lines.result made.taken made.held made.open,
         answers_none (g.R.Server.machine (g.R.Server.setting_of c.args.server)) _ (disk_at g.D.Disk.moment_of g.D.Disk.told (g.R.Server.disk_of c.args.server)) (g.R.Server.state_of c.args.server)
-            (g.met.D.Disk.counts_moments (g.R.Server.disk_of c.args.server)) (g.met.R.Server.rests c.args.server),
+            (g.met.D.Disk.counts_moments (g.R.Server.disk_of c.args.server)) c.disk.ensures.rests,
       );
     }
 
@@ -135,7 +135,7 @@ loop-line-preserved g c =
             (subst (λ k. Ran (g.R.Server.machine k) here there n u (x ∷ []) one.0) inv.same one.2)
             (one.3 ∙ ap (λ k. transcript (g.R.Server.machine k) n u (x ∷ [])) inv.same)
             (c.in-Ok.ensures.next ∙ ap (λ k. (g.R.Server.machine k).after u x) inv.same)
-            (subst (λ k. Rests there.told ((g.R.Server.machine k).stands v)) same (g.met.R.Server.rests c.in-Ok.server))
+            (subst (λ k. Rests there.told ((g.R.Server.machine k).stands v)) same c.in-Ok.ensures.rests)
             c.in-Ok.ensures.told,
       );
     }

@@ -36,8 +36,8 @@ returns-in-Ok-emit_all-clause-run g c =
     let out = c.in-Ok-emit_all.ensures.added in
     let all : c.as_slice.result.now ≡ transcript m c.args.n s (line ∷ []) = c.as_slice.ensures.value ∙ c.in-Ok.ensures.text ∙ sym (transcript-one m c.args.n s line) in
     let front = subst (λ t. IsPrefix (bytes_of out.0) t) all out.3 in
-    let moments = subst (λ d. AllAt (g.D.Disk.moment_of d) out.0) c.disk.ensures out.2 in
-    let here = subst (λ k. Rests (g.D.Disk.told now) ((g.R.Server.machine k).stands (g.R.Server.state_of server))) c.in-Ok.ensures.same (g.met.R.Server.rests server) in
+    let moments = subst (λ d. AllAt (g.D.Disk.moment_of d) out.0) c.disk.ensures.disk out.2 in
+    let here = subst (λ k. Rests (g.D.Disk.told now) ((g.R.Server.machine k).stands (g.R.Server.state_of server))) c.in-Ok.ensures.same c.disk.ensures.rests in
     let rests = subst (λ u. Rests (g.D.Disk.told now) (m.stands u)) c.in-Ok.ensures.state here in
     (out.0, out.1, ran_emitted m (at before) (at now) c.args.n s line out.0 (g.met.D.Disk.counts_moments before) (g.met.D.Disk.counts_moments now) c.in-Ok.ensures.later c.in-Ok.ensures.images rests moments front, out.4 ∙ all)
 
@@ -54,8 +54,8 @@ returns-clause-run g c =
     let out = c.in-Err-emit_all.ensures.added in
     let all : c.as_slice.result.now ≡ transcript m c.args.n s (line ∷ []) = c.as_slice.ensures.value ∙ c.in-Ok.ensures.text ∙ sym (transcript-one m c.args.n s line) in
     let front = subst (λ t. IsPrefix (bytes_of out.0) t) all out.3 in
-    let moments = subst (λ d. AllAt (g.D.Disk.moment_of d) out.0) c.disk.ensures out.2 in
-    let here = subst (λ k. Rests (g.D.Disk.told now) ((g.R.Server.machine k).stands (g.R.Server.state_of server))) c.in-Ok.ensures.same (g.met.R.Server.rests server) in
+    let moments = subst (λ d. AllAt (g.D.Disk.moment_of d) out.0) c.disk.ensures.disk out.2 in
+    let here = subst (λ k. Rests (g.D.Disk.told now) ((g.R.Server.machine k).stands (g.R.Server.state_of server))) c.in-Ok.ensures.same c.disk.ensures.rests in
     let rests = subst (λ u. Rests (g.D.Disk.told now) (m.stands u)) c.in-Ok.ensures.state here in
     let ran = ran_emitted m (at before) (at now) c.args.n s line out.0 (g.met.D.Disk.counts_moments before) (g.met.D.Disk.counts_moments now) c.in-Ok.ensures.later c.in-Ok.ensures.images rests moments front in
     (out.0, out.1, subst (λ d. Ran m (at before) (at d) c.args.n s (line ∷ []) out.0) (sym c.into_disk.ensures) ran, tt)
