@@ -3,7 +3,7 @@ use std::alloc::Global;
 use std::test::Fail;
 use wse_apply::{are_within_standard, limit_hit};
 use wse_element::Elements;
-use wse_history::{Answer, History};
+use wse_history::{Answer, History, Planned};
 use wse_path::{
     Command, Edit, Edits, Encoding, FailureKind, Items, Label, Limits, Memory, Operation,
     Operations, Position, RelPath, ResourceOp, Text, TextEdit, Tree, Versions, What,
@@ -43,6 +43,9 @@ pub fn limits_of(words: &str) -> Limits {
             Some(("known", text)) => limits.known = number(text),
             Some(("weight", text)) => limits.weight = number(text),
             Some(("serial", text)) => limits.serial = number(text),
+            Some(("files", text)) => limits.files = number(text),
+            Some(("file_bytes", text)) => limits.file_bytes = number(text),
+            Some(("tree_bytes", text)) => limits.tree_bytes = number(text),
             _ => (),
         }
     }
@@ -204,13 +207,18 @@ pub fn fresh(alloc: Global, limits: Limits) -> Result<History, Fail> {
     }
 }
 
-/// Performs the edit of participant 1, and says what the answer is.
-pub fn give(alloc: Global, history: &mut History, edit: Edit) -> Result<Answer, Memory> {
-    let planned = history.plan(alloc, &Command::Edit { by: 1, edit })?;
-    if planned.plan.effects.is_empty() {
-        return Ok(planned.answer);
+/// Does what the command asks, and says what the answer is.
+pub fn give(alloc: Global, history: &mut History, command: &Command) -> Result<Answer, Memory> {
+    let Planned {
+        plan,
+        locks,
+        answer,
+    } = history.plan(alloc, command)?;
+    if !plan.effects.is_empty() {
+        history.reserve(alloc, &plan)?;
+        history.commit(plan, locks);
+    } else if plan.changes.is_empty() {
+        history.commit(plan, locks);
     }
-    history.reserve(alloc, &planned.plan)?;
-    history.commit(planned.plan, planned.locks);
-    Ok(planned.answer)
+    Ok(answer)
 }

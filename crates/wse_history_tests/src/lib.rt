@@ -2,8 +2,14 @@
 #![tactic(auto)]
 
 #[cfg(test)]
+mod asked;
+#[cfg(test)]
 mod given;
+#[cfg(test)]
+mod moves;
 #[cfg(test)]
 mod rows;
 #[cfg(test)]
 mod said;
+#[cfg(test)]
+mod told;

@@ -3,6 +3,7 @@ use crate::given::{edit_of, fresh, give, limits_of};
 use crate::said::said;
 use std::alloc::Global;
 use std::test::Fail;
+use wse_path::Command;
 
 // The limits, the edits, cut at `|`, of which each may begin with its failure kind and `:`, and the answer to the last.
 const ROWS: [(&str, &str, &str); 14] = [
@@ -68,7 +69,8 @@ fn last_answer(alloc: Global, row: &(&str, &str, &str)) -> Result<String, Fail> 
     for asked in row.1.split('|') {
         let (kind, operations) = asked.split_once(':').unwrap_or(("", asked));
         let edit = edit_of(alloc, kind, operations)?;
-        text = said(alloc, &give(alloc, &mut history, edit)?)?;
+        let command = Command::Edit { by: 1, edit };
+        text = said(alloc, &give(alloc, &mut history, &command)?)?;
     }
     Ok(text)
 }

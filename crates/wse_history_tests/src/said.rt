@@ -3,21 +3,27 @@ use std::alloc::Global;
 use wse_history::Answer;
 use wse_path::{Hit, Memory, Numbered, Which};
 
-fn limit_name(which: Which) -> &'static str {
+pub fn limit_name(which: Which) -> &'static str {
     match which {
         Which::Known => "known",
         Which::Weight => "weight",
         Which::Serial => "serial",
+        Which::Files => "files",
         _ => "another",
     }
 }
 
-fn push_number(alloc: Global, text: &mut String, name: &str, number: u64) -> Result<(), Memory> {
+pub fn push_number(
+    alloc: Global,
+    text: &mut String,
+    name: &str,
+    number: u64,
+) -> Result<(), Memory> {
     text.push_str(format!(in alloc; " {name} {number}")?.as_str())?;
     Ok(())
 }
 
-fn push_changed(alloc: Global, text: &mut String, changed: &[Numbered]) -> Result<(), Memory> {
+pub fn push_changed(alloc: Global, text: &mut String, changed: &[Numbered]) -> Result<(), Memory> {
     for one in changed {
         let path = one.path.text(alloc)?;
         push_number(alloc, text, path.as_str(), u64::from(one.number))?;

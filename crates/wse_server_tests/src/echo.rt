@@ -27,8 +27,6 @@ impl Server<QuietDisk> for Echo {
 
     ghost disk_of = { λ server. server.disk };
 
-    ghost rests = { λ server. record { at_rest = λ image left. absurd left; reads = tt } };
-
     fn disk(&self) -> &QuietDisk {
         &self.disk
     }
