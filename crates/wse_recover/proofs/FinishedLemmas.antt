@@ -46,7 +46,7 @@ not_the_switch (b ∷ rest) = elim (eqb (b % 2) 0) as (λ x. is_same_area Switch
 same_choice : (old image : Reading) → DiffersInArea (chosen old) old image → chosen image ≡ chosen old
 same_choice old image only = ap chosen_by (only.others Switch (not_the_switch old.switch))
 
-ends_with : (rs : List JournalRecord) (r : JournalRecord) → ends_settled (rs ++ r ∷ []) ≡ eqb r.mark settled_byte
+pub ends_with : (rs : List JournalRecord) (r : JournalRecord) → ends_settled (rs ++ r ∷ []) ≡ eqb r.mark settled_byte
 ends_with rs r = ap (λ (o : Option JournalRecord). option_map_or (λ x. eqb x.mark settled_byte) o true) (last_or_push None rs r)
 
 -- ---- the mark of a record doesn't matter for what it leaves

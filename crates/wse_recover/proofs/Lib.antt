@@ -16,3 +16,5 @@ pub mod LoadLemmas
 pub mod SettingLemmas
 pub mod DifferLemmas
 pub mod FinishedLemmas
+pub mod OpeningLemmas
+pub mod OpenedLemmas

@@ -21,3 +21,8 @@ pub mod Unsettled
 pub mod Load
 pub mod Differing
 pub mod Finish
+pub mod Opening
+pub mod Adopting
+pub mod Open
+pub mod Finishing
+pub mod Comparing

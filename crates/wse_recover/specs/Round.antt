@@ -57,7 +57,7 @@ GivesRound told area place old new result =
 -- The place rises, and stays below 2^63. So is that of the end.
 abbrev pub Rises : (place : ℕ) → Round → Type 0
 Rises place (Entered last next) = (place < next) × (next < 2 ^ 63)
-Rises place (Ended gate) = gate < 2 ^ 63
+Rises place (Ended gate) = (gate ≡ place) × (gate < 2 ^ 63)
 
 abbrev pub place_behind : Round → ℕ
 place_behind (Entered last next) = next

@@ -5,7 +5,7 @@ ghost use Rattle.wse_recover.specs.Faults.{fault_of_scan};
 use crate::unsettled::Unsettled;
 use wse_disk::{Disk, Failed, ReadErr};
 use wse_log::ScanFault;
-use wse_path::{Hit, Memory, Which};
+use wse_path::{Hit, Memory, RelPath, Which};
 
 /// Why a store isn't made. The disk is handed back.
 pub enum InitFault<D: Disk> {
@@ -123,6 +123,42 @@ impl From<Memory> for ReplayFault {
 
     fn from(_: Memory) -> ReplayFault {
         ReplayFault::Memory
+    }
+}
+
+/// Why a last record isn't finished. Nothing was written.
+#[derive(Drop)]
+pub(crate) enum Unfinished {
+    /// The disk failed.
+    Disk,
+    /// This file is the first in the way of what the record makes present.
+    InTheWay(RelPath),
+    /// There was no memory.
+    Memory,
+}
+
+impl From<Memory> for Unfinished {
+    ghost use Rattle.std.specs.Prelude.{◌≡◌};
+    ghost use Rattle.wse_recover.specs.declared.fault.Unfinished.TheVariants as unfinished;
+
+    ghost from_gives = { λ _ fault. fault ≡ unfinished.Memory };
+
+    fn from(_: Memory) -> Unfinished {
+        Unfinished::Memory
+    }
+}
+
+impl From<ReadErr> for Unfinished {
+    ghost use Rattle.std.specs.Prelude.{◌≡◌};
+    ghost use Rattle.wse_recover.specs.Faults.{unfinished_of};
+
+    ghost from_gives = { λ e fault. fault ≡ unfinished_of e };
+
+    fn from(e: ReadErr) -> Unfinished {
+        match e {
+            ReadErr::Failed => Unfinished::Disk,
+            ReadErr::Memory => Unfinished::Memory,
+        }
     }
 }
 

@@ -1,5 +1,5 @@
 // Finishing a last record that isn't settled.
-ghost use Rattle.std.specs.Prelude.{IfOk};
+ghost use Rattle.std.specs.Prelude.{◌≡◌, IfOk};
 ghost use Rattle.wse_element.specs.State.{State};
 ghost use Rattle.wse_disk.specs.Told.{IsAtRest, reading_of};
 ghost use Rattle.wse_txn.specs.Stands.{StandsFor};
@@ -17,6 +17,7 @@ pub fn finish<D: Disk>(sealed: Sealed<D>) -> Result<Idle<D>, D>
         → Leaves D.told (λ idle. idle.disk) sealed.disk result (StandsFor s) }
     ensures at { (s : State) → IsUnfinished s sealed.area sealed.gate sealed.plan (reading_of (D.told sealed.disk))
         → IfOk result (λ idle. IsAt s idle.area idle.gate (D.told idle.disk)) }
+    ensures same { IfOk result (λ idle. (idle.area ≡ sealed.area) × (idle.gate ≡ sealed.gate)) }
     ensures rests { IfOk result (λ idle. IsAtRest (D.told idle.disk)) }
     ensures tells { IfOk result (λ idle. TellsAsBefore (D.told sealed.disk) (D.told idle.disk)) }
     ensures later { KeepsMoments D.moment_of (λ idle. idle.disk) sealed.disk result }

@@ -34,6 +34,7 @@ pub fn read_journal<D: Disk>(alloc: Global, disk: &mut D) -> Result<Journal, Rep
     ensures chosen { IfOk result (λ journal. ReadsChosen (D.told disk.old) journal.area) }
     ensures gives { GivesJournal (D.told disk.old) result }
     ensures bounded { IfOk result (λ journal. AreNumbersBounded (held journal.stacks journal.versions)) }
+    ensures behind { IfOk result (λ journal. 0 < journal.gate) }
     ensures small { IfOk result (λ journal. journal.gate < 2 ^ 63) }
     ensures come { IfOk result (λ journal. MayBeFinished journal.last) }
     ensures same { D.told disk.new ≡ D.told disk.old }

@@ -37,6 +37,7 @@ pub fn read_rest<D: Disk>(
     requires bounded { AreNumbersBounded (held stacks.old versions.old) }
     ensures gives { GivesEnd (D.told disk.old) area place (held stacks.old versions.old) (held stacks.new versions.new) result }
     ensures bounded { OnOk result (AreNumbersBounded (held stacks.new versions.new)) }
+    ensures behind { IfOk result (λ end. 0 < end.gate) }
     ensures small { IfOk result (λ end. end.gate < 2 ^ 63) }
     ensures come { IfOk result (λ end. MayBeFinished end.last) }
     ensures same { D.told disk.new ≡ D.told disk.old }

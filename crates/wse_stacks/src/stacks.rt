@@ -14,6 +14,7 @@ ghost use Rattle.wse_element.specs.Weight.{weight};
 ghost use Rattle.wse_stacks.specs.Image.{IsSmall};
 ghost use Rattle.wse_stacks.specs.Paths.{AreLivePaths};
 ghost use Rattle.wse_stacks.specs.Refused.{TellsUnlinked, IsUnlinked, TellsRefused};
+ghost use Rattle.wse_stacks.specs.Stacks.{HaveParts};
 ghost use Rattle.wse_stacks.specs.Turns.{Turned};
 
 use crate::draft::is_bounded;
@@ -153,6 +154,7 @@ impl Stacks {
         ensures count { result ≡ length self.now.state.records }
         ensures linked { IsLinked self.now.state.next_id self.now.state.records }
         ensures bounded { is_bounded self.now.state ≡ true }
+        ensures parts { HaveParts self.now.state.records }
     {
         self.records.as_slice().len()
     }
