@@ -18,3 +18,5 @@ pub mod DifferLemmas
 pub mod FinishedLemmas
 pub mod OpeningLemmas
 pub mod OpenedLemmas
+pub mod ComparingLemmas
+pub mod AdoptingLemmas

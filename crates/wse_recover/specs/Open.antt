@@ -1,5 +1,5 @@
 -- What opening a store gives, and why it is refused. This project's own rule.
-use Rattle.std.specs.Prelude.{◌≡◌, ◌≢◌, ◌⊎◌, ⊤, ℕ, Bool, true, false, List, [], ◌∷◌, Option, Some, None, Result, Ok, Err}
+use Rattle.std.specs.Prelude.{◌≡◌, ◌≢◌, ◌≤◌, ◌⊎◌, ⊤, ℕ, Bool, true, false, List, [], ◌∷◌, Option, Some, None, Result, Ok, Err}
 use Rattle.wse_path.specs.Causes.{Rose}
 use Rattle.wse_path.specs.Path.{Path}
 use Rattle.wse_path.specs.declared.limits.Limits.{Limits}
@@ -103,11 +103,18 @@ abbrev pub LeavesOpening : {D : Type 0} → (adopt : Bool) → (D → Option Sta
 LeavesOpening adopt told old s result =
     LeavesOnly (told old) (told (disk_of_open result)) (λ image. MayLeave (told old) image ⊎ StandsForOpened adopt s image)
 
--- Where the disk didn't fail its count of faults is as it was.
+-- The count of the disk's faults never falls, and where it didn't fail it is as it was.
 abbrev pub OpenGoesOn : {D : Type 0} → (D → ℕ) → D → Result (Opened D) (OpenFault D) → Type 0
 OpenGoesOn faults old (Ok o) = faults o.idle.disk ≡ faults old
-OpenGoesOn faults old (Err (opens.Disk new)) = ⊤
+OpenGoesOn faults old (Err (opens.Disk new)) = faults old ≤ faults new
 OpenGoesOn faults old (Err (opens.NotAStore new at)) = faults new ≡ faults old
 OpenGoesOn faults old (Err (opens.TooBig new which found)) = faults new ≡ faults old
 OpenGoesOn faults old (Err (opens.Differs new p)) = faults new ≡ faults old
 OpenGoesOn faults old (Err (opens.Memory new)) = faults new ≡ faults old
+
+-- ---- limits
+
+-- Where adopting changed the state for which the image stands, it passes none of the limits on what is known and on serial
+-- numbers.
+abbrev pub AdoptsWithin : Limits → State → Reading → Type 0
+AdoptsWithin limits s image = (t : State) × StandsFor t image × ((s ≡ t) ⊎ (adopting_hit limits s ≡ None))

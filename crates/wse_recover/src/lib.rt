@@ -1,10 +1,12 @@
 // Making stores and reading their journals.
 #![tactic(auto)]
 
+mod adopting;
 mod begin;
 mod bumps;
 mod changes;
 mod choose;
+mod compared;
 mod differing;
 mod enter;
 mod fault;

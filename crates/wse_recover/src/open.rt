@@ -9,8 +9,9 @@ ghost use Rattle.wse_disk.specs.Told.{WhereTold, reading_of, IsTold, IsAtRest};
 ghost use Rattle.wse_txn.specs.Stands.{StandsFor};
 ghost use Rattle.wse_txn.specs.Command.{IsAt};
 ghost use Rattle.wse_txn.specs.Outcomes.{TellsAsBefore};
-ghost use Rattle.wse_recover.specs.Open.{opened_state, IsOpened, RefusesOpen, LeavesOpening, disk_of_open, OpenGoesOn};
+ghost use Rattle.wse_recover.specs.Open.{AdoptsWithin, opened_state, IsOpened, RefusesOpen, LeavesOpening, disk_of_open, OpenGoesOn};
 
+use crate::compared::compared;
 use crate::found::found;
 use std::alloc::Global;
 use wse_disk::Disk;
@@ -24,6 +25,21 @@ pub struct Opened<D: Disk> {
     pub stacks: Stacks,
     pub versions: Versions,
     pub tree: Tree,
+}
+
+impl<D: Disk> Opened<D> {
+    /// Hands the disk back, on which nothing is pending.
+    pub fn into_disk(self) -> D
+        ensures { result ≡ self.idle.disk }
+    {
+        let Opened {
+            idle,
+            stacks: _,
+            versions: _,
+            tree: _,
+        } = self;
+        idle.into_disk()
+    }
 }
 
 /// Why a store isn't opened. The disk is handed back.
@@ -52,6 +68,7 @@ pub fn open_store<D: Disk>(
 ) -> Result<Opened<D>, OpenFault<D>>
     requires within { are_within limits.now standard ≡ true }
     ensures opened { IfOk result (λ o. WhereTold (D.told disk) (λ t. IsOpened adopt (opened_state o) t.reading)) }
+    ensures adopts { IfOk result (λ o. WhereTold (D.told disk) (λ t. AdoptsWithin limits.now (opened_state o) t.reading)) }
     ensures at { IfOk result (λ o. IsTold (D.told o.idle.disk) → IsAt (opened_state o) o.idle.area o.idle.gate (D.told o.idle.disk)) }
     ensures rests { IfOk result (λ o. IsAtRest (D.told o.idle.disk)) }
     ensures tells { IfOk result (λ o. TellsAsBefore (D.told disk) (D.told o.idle.disk)) }
@@ -63,6 +80,6 @@ pub fn open_store<D: Disk>(
     ensures later { D.moment_of disk ≤ D.moment_of (disk_of_open result) }
     ensures kept { OpenGoesOn D.faults disk result }
 {
-    let _ = adopt;
-    found(alloc, disk, limits)
+    let opened = found(alloc, disk, limits)?;
+    compared(alloc, opened, adopt, limits)
 }
