@@ -1,10 +1,10 @@
 // What contents that are to come change in the tree.
-ghost use Rattle.std.specs.Prelude.{◌≡◌, ◌++◌, OnOk, IfOk};
+ghost use Rattle.std.specs.Prelude.{◌≡◌, ◌++◌, OnOk};
 ghost use Rattle.std.specs.Option.{option_copied};
 ghost use Rattle.wse_path.specs.Changes.{is_same, change_to};
 
 use std::alloc::Global;
-use wse_path::{Bytes, Change, Duplicate, Memory, RelPath, Tree};
+use wse_path::{Bytes, Change, Duplicate, Memory, RelPath, Tree, copy_content};
 
 /// Whether both are the same content, absence included.
 pub(crate) fn is_same(now: Option<&[u8]>, content: &Option<Bytes>) -> bool
@@ -14,16 +14,6 @@ pub(crate) fn is_same(now: Option<&[u8]>, content: &Option<Bytes>) -> bool
         (None, None) => true,
         (Some(now), Some(content)) => now == content.as_slice(),
         _ => false,
-    }
-}
-
-/// A copy of bytes that may be there.
-fn copied(alloc: Global, bytes: Option<&[u8]>) -> Result<Option<Bytes>, Memory>
-    ensures { IfOk result (λ copy. copy ≡ option_copied bytes.entry) }
-{
-    match bytes {
-        Some(bytes) => Ok(Some(Bytes::new(bytes.to_vec(alloc)?))),
-        None => Ok(None),
     }
 }
 
@@ -41,7 +31,7 @@ pub(crate) fn push_change(
     if !is_same(before, &content) {
         changes.push(Change {
             path: path.duplicate(alloc)?,
-            before: copied(alloc, before)?,
+            before: copy_content(alloc, before)?,
             after: content,
         })?;
     }

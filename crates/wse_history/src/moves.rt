@@ -24,7 +24,7 @@ use wse_path::{Choice, Direction, Duplicate, Memory, RelPath};
 use wse_rules::{Ruling, verdict};
 use wse_stacks::Stacks;
 
-fn copied(alloc: Global, choice: &Choice) -> Result<Choice, Memory>
+fn second_choice(alloc: Global, choice: &Choice) -> Result<Choice, Memory>
     ensures { IfOk result (λ copy. copy ≡ choice.now) }
 {
     match choice {
@@ -83,7 +83,7 @@ pub(crate) fn plan_move(
 {
     let _ = history.limits();
     let stacks = history.stacks();
-    let choice = copied(alloc, choice)?;
+    let choice = second_choice(alloc, choice)?;
     let asked = Asked {
         direction,
         id: asked_id(stacks, direction, path),

@@ -36,10 +36,10 @@ use Rattle.wse_stacks.proofs.ImageLemmas.{images_are}
 use Rattle.wse_txn.specs.Replay.{sets_each}
 use Rattle.std.specs.FinMap.{is_sorted}
 use Rattle.wse_path.specs.Order.{path_cmp}
-use Rattle.wse_recover.specs.Sets.{AreToCome, is_meant, is_named, named, IsPlain, MayEnter}
+use Rattle.wse_recover.specs.Sets.{AreToCome, is_meant, is_meant_by, meant, IsPlain, MayEnter}
 use Rattle.wse_recover.proofs.RiseLemmas.{dropped_one}
 
--- ---- elements that aren't named aren't looked at
+-- ---- elements that aren't meant aren't looked at
 
 module _ {X : Type 0} (t : X → Bool) where
   filter_append : (xs ys : List X) → filter t (xs ++ ys) ≡ filter t xs ++ filter t ys
@@ -67,34 +67,34 @@ clash : (b : Bool) → b ≡ true → b ≡ false → ⊥
 clash b t f = true≢false (sym t ∙ f)
 
 module _ (before : List Effect) (effect : Effect) where
-  goes_lost : (path : Path) (reason : PartState) (r : Record) → is_named before effect r ≡ false → filter (is_named before effect) (image_lost path reason r) ≡ []
-  goes_lost path Live r e = filter_one (is_named before effect) r e
+  goes_lost : (path : Path) (reason : PartState) (r : Record) → is_meant_by before effect r ≡ false → filter (is_meant_by before effect) (image_lost path reason r) ≡ []
+  goes_lost path Live r e = filter_one (is_meant_by before effect) r e
   goes_lost path Closed r e =
-      elim (has_live (lost_at path Closed r)) as (λ b. filter (is_named before effect) (cond b (lost_at path Closed r ∷ []) []) ≡ []) [
-        | true ↦ filter_one (is_named before effect) (lost_at path Closed r) e
+      elim (has_live (lost_at path Closed r)) as (λ b. filter (is_meant_by before effect) (cond b (lost_at path Closed r ∷ []) []) ≡ []) [
+        | true ↦ filter_one (is_meant_by before effect) (lost_at path Closed r) e
         | false ↦ refl
       ]
   goes_lost path Incompatible r e =
-      let same : is_named before effect (future_lost_at path r) ≡ false = elim r.done as (λ b. is_named before effect (cond b r (lost_at path Incompatible r)) ≡ false) [ true ↦ e | false ↦ e ] in
-      elim (has_live (future_lost_at path r)) as (λ b. filter (is_named before effect) (cond b (future_lost_at path r ∷ []) []) ≡ []) [
-        | true ↦ filter_one (is_named before effect) (future_lost_at path r) same
+      let same : is_meant_by before effect (future_lost_at path r) ≡ false = elim r.done as (λ b. is_meant_by before effect (cond b r (lost_at path Incompatible r)) ≡ false) [ true ↦ e | false ↦ e ] in
+      elim (has_live (future_lost_at path r)) as (λ b. filter (is_meant_by before effect) (cond b (future_lost_at path r ∷ []) []) ≡ []) [
+        | true ↦ filter_one (is_meant_by before effect) (future_lost_at path r) same
         | false ↦ refl
       ]
 
-  goes : (e : Effect) → sets_tree e ≡ false → ((id : ℕ) → is_meant id e ≡ true → list_any (is_meant id) before ≡ true) → (r : Record) → is_named before effect r ≡ false
-      → filter (is_named before effect) (image e r) ≡ []
+  goes : (e : Effect) → sets_tree e ≡ false → ((id : ℕ) → is_meant id e ≡ true → list_any (is_meant id) before ≡ true) → (r : Record) → is_meant_by before effect r ≡ false
+      → filter (is_meant_by before effect) (image e r) ≡ []
   goes (Push x) none among r un = absurd (true≢false none)
   goes (MoveBack id) none among r un = absurd (true≢false none)
   goes (MoveForward id) none among r un = absurd (true≢false none)
   goes (Set path content) none among r un = absurd (true≢false none)
   goes (Split id first) none among r un =
-      elim (has_id id r) as (λ b. has_id id r ≡ b → filter (is_named before effect) (cond b (pieces r first) (r ∷ [])) ≡ []) [
+      elim (has_id id r) as (λ b. has_id id r ≡ b → filter (is_meant_by before effect) (cond b (pieces r first) (r ∷ [])) ≡ []) [
         | true ↦ λ h. absurd (clash (list_any (is_meant r.id) before) (among r.id h) (or_parts (list_any (is_meant r.id) before) (is_meant r.id effect) un).0)
-        | false ↦ λ h. filter_one (is_named before effect) r un
+        | false ↦ λ h. filter_one (is_meant_by before effect) r un
       ] refl
   goes (Drop path reason) none among r un = goes_lost path reason r un
-  goes (Invalidate path) none among r un = filter_one (is_named before effect) (invalid_at path r) un
-  goes (Bump path by) none among r un = filter_one (is_named before effect) r un
+  goes (Invalidate path) none among r un = filter_one (is_meant_by before effect) (invalid_at path r) un
+  goes (Bump path by) none among r un = filter_one (is_meant_by before effect) r un
 
 plain_brings : (e : Effect) → sets_tree e ≡ false → BringsNone e
 plain_brings (Push x) none = absurd (true≢false none)
@@ -106,11 +106,11 @@ plain_brings (Invalidate path) none = tt
 plain_brings (Bump path by) none = tt
 plain_brings (Set path content) none = tt
 
--- after one effect more the named elements are those of the whole list
+-- after one effect more the meant elements are those of the whole list
 pub named_after : (before : List Effect) (effect e : Effect) (some all : List Record) → sets_tree e ≡ false → ((id : ℕ) → is_meant id e ≡ true → list_any (is_meant id) before ≡ true)
-    → filter (is_named before effect) some ≡ filter (is_named before effect) all → filter (is_named before effect) (images e some) ≡ filter (is_named before effect) (records_after all e)
+    → filter (is_meant_by before effect) some ≡ filter (is_meant_by before effect) all → filter (is_meant_by before effect) (images e some) ≡ filter (is_meant_by before effect) (records_after all e)
 named_after before effect e some all none among same =
-    let t = is_named before effect in
+    let t = is_meant_by before effect in
     let go = goes before effect e none among in
     filter_flat t (image e) go some ∙ ap (λ rs. filter t (flat_map (image e) rs)) same ∙ sym (filter_flat t (image e) go all)
     ∙ ap (filter t) (images_are all e (plain_brings e none))
@@ -123,22 +123,22 @@ found_named t id names (r ∷ rs) =
       | false ↦ λ e. found_named t id names rs ∙ sym (ap (λ b. cond b (Some r) (find (has_id id) rs)) (false_from_ne_true (has_id id r) (λ h. clash (t r) (names r h) e)))
     ] refl
 
--- what the effect sets is the same of the named elements alone
-pub named_set : (before : List Effect) (effect : Effect) (some all : List Record) → filter (is_named before effect) some ≡ filter (is_named before effect) all → contents_set some effect ≡ contents_set all effect
-named_set before (Push x) some all same = refl
-named_set before (MoveBack id) some all same =
-    let t = is_named before (MoveBack id) in
+-- what the effect sets is the same of the meant elements alone
+pub meant_set : (before : List Effect) (effect : Effect) (some all : List Record) → filter (is_meant_by before effect) some ≡ filter (is_meant_by before effect) all → contents_set some effect ≡ contents_set all effect
+meant_set before (Push x) some all same = refl
+meant_set before (MoveBack id) some all same =
+    let t = is_meant_by before (MoveBack id) in
     let names = λ (r : Record) (h : has_id id r ≡ true). or_right (list_any (is_meant r.id) before) (has_id id r) h in
     ap (λ o. option_map_or old_contents o []) (sym (found_named t id names some) ∙ ap (λ rs. record_of rs id) same ∙ found_named t id names all)
-named_set before (MoveForward id) some all same =
-    let t = is_named before (MoveForward id) in
+meant_set before (MoveForward id) some all same =
+    let t = is_meant_by before (MoveForward id) in
     let names = λ (r : Record) (h : has_id id r ≡ true). or_right (list_any (is_meant r.id) before) (has_id id r) h in
     ap (λ o. option_map_or new_contents o []) (sym (found_named t id names some) ∙ ap (λ rs. record_of rs id) same ∙ found_named t id names all)
-named_set before (Split id first) some all same = refl
-named_set before (Drop path reason) some all same = refl
-named_set before (Invalidate path) some all same = refl
-named_set before (Bump path by) some all same = refl
-named_set before (Set path content) some all same = refl
+meant_set before (Split id first) some all same = refl
+meant_set before (Drop path reason) some all same = refl
+meant_set before (Invalidate path) some all same = refl
+meant_set before (Bump path by) some all same = refl
+meant_set before (Set path content) some all same = refl
 
 -- ---- the parts of each element are apart
 
@@ -380,10 +380,10 @@ taken_suc (y ∷ ys) zero x h = let same : y ≡ x = cc in ap (λ z. z ∷ []) s
 taken_suc (y ∷ ys) (suc i) x h = ap (λ zs. y ∷ zs) (taken_suc ys i x h)
 
 pub named_more : (before : List Effect) (effect : Effect) (rs : List Record) (i : ℕ) (r : Record) → slice_get rs i ≡ Some r
-    → named before effect (take (i + 1) rs) ≡ named before effect (take i rs) ++ cond (is_named before effect r) (r ∷ []) []
+    → meant before effect (take (i + 1) rs) ≡ meant before effect (take i rs) ++ cond (is_meant_by before effect r) (r ∷ []) []
 named_more before effect rs i r h =
     let s : i + 1 ≡ suc i = omega arith in
-    ap (λ n. named before effect (take n rs)) s ∙ ap (named before effect) (taken_suc rs i r h) ∙ filter_append (is_named before effect) (take i rs) (r ∷ [])
+    ap (λ n. meant before effect (take n rs)) s ∙ ap (meant before effect) (taken_suc rs i r h) ∙ filter_append (is_meant_by before effect) (take i rs) (r ∷ [])
 
 pub none_there : {X : Type 0} (xs : List X) (i : ℕ) → slice_get xs i ≡ None → i < length xs → ⊥
 none_there [] i h lt = omega (arith, lt)
@@ -397,13 +397,13 @@ all_taken [] (suc i) le = refl
 all_taken (x ∷ xs) zero le = let none : ⊥ = omega (arith, le) in absurd none
 all_taken (x ∷ xs) (suc i) le = ap (λ ys. x ∷ ys) (all_taken xs i (omega (arith, le)))
 
-pub again : (before : List Effect) (effect : Effect) (rs : List Record) → named before effect (named before effect rs) ≡ named before effect rs
-again before effect rs = filter-filter (is_named before effect) (is_named before effect) rs ∙ twice rs
+pub again : (before : List Effect) (effect : Effect) (rs : List Record) → meant before effect (meant before effect rs) ≡ meant before effect rs
+again before effect rs = filter-filter (is_meant_by before effect) (is_meant_by before effect) rs ∙ twice rs
   where
-    twice : (rs : List Record) → filter (λ r. is_named before effect r && is_named before effect r) rs ≡ filter (is_named before effect) rs
+    twice : (rs : List Record) → filter (λ r. is_meant_by before effect r && is_meant_by before effect r) rs ≡ filter (is_meant_by before effect) rs
     twice [] = refl
     twice (r ∷ rs) =
-        elim (is_named before effect r) as (λ b. cond (b && b) (r ∷ filter (λ x. is_named before effect x && is_named before effect x) rs) (filter (λ x. is_named before effect x && is_named before effect x) rs) ≡ cond b (r ∷ filter (is_named before effect) rs) (filter (is_named before effect) rs)) [
+        elim (is_meant_by before effect r) as (λ b. cond (b && b) (r ∷ filter (λ x. is_meant_by before effect x && is_meant_by before effect x) rs) (filter (λ x. is_meant_by before effect x && is_meant_by before effect x) rs) ≡ cond b (r ∷ filter (is_meant_by before effect) rs) (filter (is_meant_by before effect) rs)) [
           | true ↦ ap (λ xs. r ∷ xs) (twice rs)
           | false ↦ twice rs
         ]
@@ -418,15 +418,15 @@ any_there : (test : Effect → Bool) (before : List Effect) (e : Effect) (more :
 any_there test [] e more h = or_left (test e) (list_any test more) h
 any_there test (x ∷ before) e more h = or_right (test x) (list_any test (before ++ e ∷ more)) (any_there test before e more h)
 
--- the named elements one effect further
+-- the meant elements one effect further
 pub named_next : (h : StacksState) (before : List Effect) (effect : Effect) (some new : List Record) (i : ℕ) (e : Effect) → i < length before → e ≡ get_or before i e → IsPlain e
-    → named before effect some ≡ named before effect (after_each h (take i before)).records → new ≡ images e some
-    → named before effect new ≡ named before effect (after_each h (take (i + 1) before)).records
+    → meant before effect some ≡ meant before effect (after_each h (take i before)).records → new ≡ images e some
+    → meant before effect new ≡ meant before effect (after_each h (take (i + 1) before)).records
 named_next h before effect some new i e lt there plain same is =
-    ap (named before effect) is
+    ap (meant before effect) is
     ∙ named_after before effect e some (after_each h (take i before)).records plain.none
     (λ id meant. ap (list_any (is_meant id)) (split_at before i e lt there) ∙ any_there (is_meant id) (take i before) e (drop (i + 1) before) meant) same
-    ∙ ap (λ (g : StacksState). named before effect g.records) (sym (ap (after_each h) (taken_one before i e lt there) ∙ after_behind h (take i before) (e ∷ [])))
+    ∙ ap (λ (g : StacksState). meant before effect g.records) (sym (ap (after_each h) (taken_one before i e lt there) ∙ after_behind h (take i before) (e ∷ [])))
 
 pub only_set_at : (h : StacksState) (effects : List Effect) (i : ℕ) (e : Effect) → MayEnter h effects → list_all is_apart h.records ≡ true → i < length effects → e ≡ get_or effects i e
     → list_any sets_tree (take i effects) ≡ false → sets_tree e ≡ true → IsOnlySet h effects (take i effects) e

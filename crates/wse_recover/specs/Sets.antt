@@ -27,11 +27,11 @@ is_meant id (Split whole first) = id == whole
 is_meant id _ = false
 
 -- The effect, or one of those before it, moves or splits the record.
-abbrev pub is_named : List Effect → Effect → Record → Bool
-is_named before effect r = list_any (is_meant r.id) before || is_meant r.id effect
+abbrev pub is_meant_by : List Effect → Effect → Record → Bool
+is_meant_by before effect r = list_any (is_meant r.id) before || is_meant r.id effect
 
-abbrev pub named : List Effect → Effect → List Record → List Record
-named before effect records = filter (is_named before effect) records
+abbrev pub meant : List Effect → Effect → List Record → List Record
+meant before effect records = filter (is_meant_by before effect) records
 
 -- The effect sets nothing in the tree, and a split's first id leaves room for the others.
 pub record IsPlain (effect : Effect) : Type 0 where

@@ -10,7 +10,7 @@ ghost use Rattle.wse_element.specs.Split.{pieces};
 ghost use Rattle.wse_element.specs.Stacks.{record_of};
 ghost use Rattle.wse_stacks.specs.Image.{if_live, image_lost, image, images, IsSmall};
 ghost use Rattle.wse_txn.specs.Replay.{sets_each};
-ghost use Rattle.wse_recover.specs.Sets.{AreToCome, is_meant, is_named, named, IsPlain, MayEnter};
+ghost use Rattle.wse_recover.specs.Sets.{AreToCome, is_meant, is_meant_by, meant, IsPlain, MayEnter};
 
 use std::alloc::Global;
 use wse_element::{Effect, Element, PartState};
@@ -53,40 +53,40 @@ fn is_meant_by_any(id: u64, effects: &[Effect]) -> bool
     effects.iter().any(|effect| is_meant(id, effect))
 }
 
-fn is_named(before: &[Effect], effect: &Effect, element: &Element) -> bool
-    ensures { result ≡ is_named before.now effect.now element.now }
+fn is_meant_by(before: &[Effect], effect: &Effect, element: &Element) -> bool
+    ensures { result ≡ is_meant_by before.now effect.now element.now }
 {
     is_meant_by_any(element.id(), before) || is_meant(element.id(), effect)
 }
 
-fn push_named(
+fn push_meant(
     all: &mut Vec<Element>,
     alloc: Global,
     before: &[Effect],
     effect: &Effect,
     element: &Element,
 ) -> Result<(), Memory>
-    ensures { OnOk result (all.new.items ≡ all.old.items ++ (if is_named before.now effect.now element.now then element.now ∷ [] else [])) }
+    ensures { OnOk result (all.new.items ≡ all.old.items ++ (if is_meant_by before.now effect.now element.now then element.now ∷ [] else [])) }
 {
-    if is_named(before, effect, element) {
+    if is_meant_by(before, effect, element) {
         all.push(element.duplicate(alloc)?)?;
     }
     Ok(())
 }
 
 // Copies of the elements that the effects move or split.
-fn named(
+fn meant(
     alloc: Global,
     stacks: &Stacks,
     before: &[Effect],
     effect: &Effect,
 ) -> Result<Vec<Element>, Memory>
-    ensures { IfOk result (λ all. all.items ≡ named before.now effect.now stacks.now.state.records) }
+    ensures { IfOk result (λ all. all.items ≡ meant before.now effect.now stacks.now.state.records) }
 {
     let mut all = Vec::new(alloc);
     for at in 0..stacks.count() {
         if let Some(element) = stacks.element_at(at) {
-            push_named(&mut all, alloc, before, effect, element)?;
+            push_meant(&mut all, alloc, before, effect, element)?;
         }
     }
     Ok(all)
@@ -246,7 +246,7 @@ fn set_behind(
     ensures sets { IfOk result (λ sets. sets ≡ contents_set (after_each stacks.now.state before.now).records effect.now) }
     ensures rise { IfOk result (λ sets. is_sorted path_cmp sets ≡ true) }
 {
-    let mut elements = named(alloc, stacks, before, effect)?;
+    let mut elements = meant(alloc, stacks, before, effect)?;
     for at in 0..before.len() {
         elements = images(alloc, elements, &before[at])?;
     }

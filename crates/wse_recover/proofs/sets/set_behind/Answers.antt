@@ -2,12 +2,12 @@ use Rattle.std.proofs.Common.{◌≡◌, List, sym, ap, subst, ◌∙◌}
 use Rattle.wse_element.specs.declared.effect.Effect.{Effect}
 use Rattle.wse_element.specs.Record.{Record}
 use Rattle.wse_element.specs.Effects.{after_each, contents_set}
-use Rattle.wse_recover.specs.Sets.{named, IsPlain}
-use Rattle.wse_recover.proofs.SetsLemmas.{again, named_set, named_next, all_taken, if_ok_then}
+use Rattle.wse_recover.specs.Sets.{meant, IsPlain}
+use Rattle.wse_recover.proofs.SetsLemmas.{again, meant_set, named_next, all_taken, if_ok_then}
 use Rattle.wse_recover.proofs.sets.set_behind.Goals as goal
 
 pub loop-at-init : goal.loop-at-init
-loop-at-init c = ap (named c.args.before.now c.args.effect.now) c.in_ok-elements.ensures ∙ again c.args.before.now c.args.effect.now c.args.stacks.now.state.records
+loop-at-init c = ap (meant c.args.before.now c.args.effect.now) c.in_ok-elements.ensures ∙ again c.args.before.now c.args.effect.now c.args.stacks.now.state.records
 
 pub loop-at-preserved : goal.loop-at-preserved
 loop-at-preserved c =
@@ -20,6 +20,6 @@ returns-clause-sets c =
     let before = c.args.before.now in
     let effect = c.args.effect.now in
     let all = (after_each c.args.stacks.now.state before).records in
-    let same = c.loop-at.invariant ∙ ap (λ (es : List Effect). named before effect (after_each c.args.stacks.now.state es).records) (all_taken before c.loop-at.at c.loop-at-test.false) in
+    let same = c.loop-at.invariant ∙ ap (λ (es : List Effect). meant before effect (after_each c.args.stacks.now.state es).records) (all_taken before c.loop-at.at c.loop-at-test.false) in
     if_ok_then c.contents_set.result (λ sets. sets ≡ contents_set c.as_slice.result.now effect) (λ sets. sets ≡ contents_set all effect)
-    (λ sets is. is ∙ ap (λ (rs : List Record). contents_set rs effect) c.as_slice.ensures.value ∙ named_set before effect c.loop-at.elements.items all same) c.contents_set.ensures.sets
+    (λ sets is. is ∙ ap (λ (rs : List Record). contents_set rs effect) c.as_slice.ensures.value ∙ meant_set before effect c.loop-at.elements.items all same) c.contents_set.ensures.sets

@@ -1,10 +1,10 @@
 use Rattle.std.proofs.Common.{◌++◌, [], ◌∷◌, cond, List, sym, ap, ◌∙◌, arith}
 use Rattle.std.specs.Option.{option_copied}
 use Rattle.wse_element.specs.Record.{Record}
-use Rattle.wse_recover.specs.Sets.{is_named}
+use Rattle.wse_recover.specs.Sets.{is_meant_by}
 use Rattle.wse_recover.proofs.SetsLemmas.{named_more, none_there}
-use Rattle.wse_recover.proofs.sets.named.Goals.{in-Some+in_ok-push_named, in_default}
-use Rattle.wse_recover.proofs.sets.named.Goals as goal
+use Rattle.wse_recover.proofs.sets.meant.Goals.{in-Some+in_ok-push_meant, in_default}
+use Rattle.wse_recover.proofs.sets.meant.Goals as goal
 
 pub loop-at-preserved : goal.loop-at-preserved
 loop-at-preserved c =
@@ -12,10 +12,10 @@ loop-at-preserved c =
     let before = c.args.before.now in
     let effect = c.args.effect.now in
     elim c.match-element_at.branch [
-      | in-Some+in_ok-push_named w ↦
+      | in-Some+in_ok-push_meant w ↦
           let there = sym c.element_at.ensures ∙ ap option_copied w.in-Some.is in
-          ap (λ all. all.items) w.all-is ∙ w.in_ok-push_named.ensures
-          ∙ ap (λ (l : List Record). l ++ cond (is_named before effect w.in-Some.element.now) (w.in-Some.element.now ∷ []) []) c.loop-at.invariant
+          ap (λ all. all.items) w.all-is ∙ w.in_ok-push_meant.ensures
+          ∙ ap (λ (l : List Record). l ++ cond (is_meant_by before effect w.in-Some.element.now) (w.in-Some.element.now ∷ []) []) c.loop-at.invariant
           ∙ sym (named_more before effect rs c.loop-at.at w.in-Some.element.now there)
       | in_default w ↦
           let none = sym c.element_at.ensures ∙ ap option_copied w.in_default.is in

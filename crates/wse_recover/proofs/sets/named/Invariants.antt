@@ -1,6 +1,0 @@
-use Rattle.std.proofs.Common.{◌≡◌, take}
-use Rattle.wse_recover.specs.Sets.{named}
-use Rattle.wse_recover.proofs.sets.named.Given as goal
-
-abbrev pub invariant-loop-at : goal.invariant-loop-at
-invariant-loop-at l = l.all.items ≡ named l.before l.effect (take l.at l.stacks.state.records)
