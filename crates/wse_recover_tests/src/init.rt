@@ -1,11 +1,11 @@
 // Stores that are made.
-use crate::quiet::Quiet;
 use crate::store::{bytes, empty, with_files};
 use std::alloc::Global;
 use std::test::Fail;
 use wse_apply::are_within_standard;
 use wse_disk::{Area, Disk};
 use wse_path::{Limits, Which};
+use wse_quiet_disk::QuietDisk;
 use wse_recover::{InitFault, init_store};
 
 // How the making of a store ends.
@@ -17,7 +17,7 @@ enum Ended {
     Memory,
 }
 
-fn make_over(alloc: Global, disk: Quiet, limits: &Limits) -> Result<(Quiet, Ended), Fail> {
+fn make_over(alloc: Global, disk: QuietDisk, limits: &Limits) -> Result<(QuietDisk, Ended), Fail> {
     if !are_within_standard(limits) {
         return Err(Fail::new("limits"));
     }
@@ -30,7 +30,7 @@ fn make_over(alloc: Global, disk: Quiet, limits: &Limits) -> Result<(Quiet, Ende
 }
 
 // Whether a store over the disk is made so that the first log begins with these bytes, and the switch is a zero.
-fn makes(alloc: Global, disk: Quiet, log: &str) -> Result<bool, Fail> {
+fn makes(alloc: Global, disk: QuietDisk, log: &str) -> Result<bool, Fail> {
     let made = make_over(alloc, disk, &Limits::standard())?;
     let log = bytes(alloc, log)?;
     let written = made.0.disk.area(Area::LogA).starts_with(&log);
@@ -57,7 +57,7 @@ fn each_file_has_the_version_one(rt: HostRuntime) -> Result<(), Fail> {
     Ok(())
 }
 
-fn dirty(alloc: Global) -> Quiet {
+fn dirty(alloc: Global) -> QuietDisk {
     let mut disk = empty(alloc, Vec::new(alloc));
     let _ = disk.area_write(Area::LogA, 0, &[7; 60]);
     let _ = disk.area_write(Area::Switch, 0, &[1]);

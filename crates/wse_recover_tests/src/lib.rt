@@ -1,4 +1,4 @@
-// Tests of making stores and of reading their journals: over a disk in memory, byte by byte.
+// Tests of making stores, of reading their journals and of opening them: over a disk in memory, byte by byte.
 #![tactic(auto)]
 
 #[cfg(test)]
@@ -6,7 +6,7 @@ mod damaged;
 #[cfg(test)]
 mod init;
 #[cfg(test)]
-mod quiet;
+mod opening;
 #[cfg(test)]
 mod reading;
 #[cfg(test)]

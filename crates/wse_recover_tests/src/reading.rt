@@ -1,10 +1,10 @@
 // Journals that are read.
-use crate::quiet::Quiet;
 use crate::store::{ELEMENTS, JOURNAL, bytes, path, with_areas, with_journal};
 use std::alloc::Global;
 use std::test::Fail;
 use wse_disk::Area;
 use wse_path::RelPath;
+use wse_quiet_disk::QuietDisk;
 use wse_recover::{Unsettled, read_journal};
 
 // Whether the journal is read, ends at this gate with one element, and its last record is settled or not.
@@ -72,7 +72,7 @@ const TABLE: [Row; 5] = [
 ];
 
 fn is_chosen(alloc: Global, row: &Row, journal: &[u8]) -> bool {
-    let mut disk: Quiet = with_areas(alloc, &[(Area::Switch, row.switch), (row.area, journal)]);
+    let mut disk: QuietDisk = with_areas(alloc, &[(Area::Switch, row.switch), (row.area, journal)]);
     match read_journal(alloc, &mut disk) {
         Ok(journal) => journal.area == row.area,
         Err(_) => false,

@@ -1,9 +1,9 @@
 // Disks of the worked rows.
-use crate::quiet::Quiet;
 use std::alloc::Global;
 use std::test::Fail;
 use wse_disk::{Area, Disk, MemDisk};
 use wse_path::{Bytes, RelPath, Tree};
+use wse_quiet_disk::QuietDisk;
 
 /// The bytes that stand there in pairs of digits.
 pub fn bytes(alloc: Global, text: &str) -> Result<Vec<u8>, Fail> {
@@ -34,15 +34,15 @@ pub fn tree(alloc: Global, names: &str) -> Result<Tree, Fail> {
 }
 
 /// A disk without files whose calls with these numbers fail.
-pub fn empty(alloc: Global, fails: Vec<u64>) -> Quiet {
+pub fn empty(alloc: Global, fails: Vec<u64>) -> QuietDisk {
     let disk = MemDisk::new(alloc, Tree::new(alloc), fails);
-    Quiet { disk, faults: 0 }
+    QuietDisk::new(disk)
 }
 
 /// A disk with these files.
-pub fn with_files(alloc: Global, names: &str) -> Result<Quiet, Fail> {
+pub fn with_files(alloc: Global, names: &str) -> Result<QuietDisk, Fail> {
     let disk = MemDisk::never_failing(alloc, tree(alloc, names)?);
-    Ok(Quiet { disk, faults: 0 })
+    Ok(QuietDisk::new(disk))
 }
 
 /// The journal of a store over no files in which one edit made the empty file `a`.
@@ -58,7 +58,7 @@ pub const ELEMENTS: &str =
     00 00 00 01 01 01 61 00 01 00 00 01 00 00 00 00 5a 00";
 
 /// A disk without files whose areas begin with these bytes.
-pub fn with_areas(alloc: Global, areas: &[(Area, &[u8])]) -> Quiet {
+pub fn with_areas(alloc: Global, areas: &[(Area, &[u8])]) -> QuietDisk {
     let mut disk = empty(alloc, Vec::new(alloc));
     for (area, bytes) in areas {
         let _ = disk.area_write(*area, 0, bytes);
@@ -67,6 +67,6 @@ pub fn with_areas(alloc: Global, areas: &[(Area, &[u8])]) -> Quiet {
 }
 
 /// A disk without files whose first log is these bytes.
-pub fn with_journal(alloc: Global, journal: &[u8]) -> Quiet {
+pub fn with_journal(alloc: Global, journal: &[u8]) -> QuietDisk {
     with_areas(alloc, &[(Area::LogA, journal)])
 }
