@@ -1,3 +1,4 @@
 pub mod Engine
 pub mod Exec
 pub mod Doing
+pub mod Start

@@ -3,5 +3,6 @@
 
 mod engine;
 mod exec;
+mod start;
 
 pub use engine::{Engine, ExecFault};

@@ -1,0 +1,3 @@
+pub mod AdoptLemmas
+pub mod OpeningLemmas
+pub mod RefusalLemmas

@@ -1,0 +1,6 @@
+pub mod Causes
+pub mod End
+pub mod Fault
+pub mod Opening
+pub mod Refusal
+pub mod Run
