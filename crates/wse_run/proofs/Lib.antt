@@ -1,3 +1,4 @@
 pub mod AdoptLemmas
 pub mod OpeningLemmas
 pub mod RefusalLemmas
+pub mod EarlierLemmas

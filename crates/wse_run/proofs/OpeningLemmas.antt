@@ -10,17 +10,19 @@ use Rattle.wse_disk.specs.Reading.{Reading}
 use Rattle.wse_disk.specs.Standing.{Standing}
 use Rattle.wse_disk.specs.Told.{WhereTold, MayLeave, IsTold, CountsMoments, reading_of}
 use Rattle.wse_disk.specs.LeavesOnly.{LeavesOnly}
-use Rattle.wse_disk.proofs.Moments.{weaker}
+use Rattle.wse_disk.proofs.Moments.{no_call, weaker}
 use Rattle.wse_io.specs.Stream.{Piece}
 use Rattle.wse_txn.specs.Stands.{StandsFor}
 use Rattle.wse_recover.specs.Adopting.{IsAdopted}
 use Rattle.wse_recover.specs.Open.{IsOpened, StandsForOpened}
 use Rattle.wse_stream.specs.Opened.{IsEarlier, AtStart, AsOpened, RunsFrom}
 use Rattle.wse_stream.specs.Rests.{StaysTold}
-use Rattle.wse_stream.specs.Runs.{Runs}
-use Rattle.wse_stream.specs.Scene.{DiskAt, Scene, scene}
+use Rattle.wse_stream.specs.Runs.{Ending, Runs}
+use Rattle.wse_stream.specs.Scene.{DiskAt, Scene, disk_at, scene}
 use Rattle.wse_stream.proofs.MomentLemmas.{stretch_since}
 use Rattle.wse_stream.proofs.OpenedLemmas.{runs_from}
+use Rattle.wse_store.specs.Store.{serving}
+use Rattle.wse_engine.specs.Engine.{EngineNow}
 use Rattle.wse_run.specs.End.{ending_of, IsServedEnd}
 use Rattle.wse_run.specs.Opening.{Begins, MayAdopt, Unread}
 use Rattle.wse_run.specs.Run.{machine_of, RunsStore, Served}
@@ -88,3 +90,18 @@ module _ (root : Parts) (limits : Limits) (max_input : ℕ) (left : Option (List
     images = λ t s is at image le left'. may_become adopt moment told s image
         (stretch_since told now.told moment at (λ c. MayLeave told c ⊎ StandsForOpened adopt s c) image counts t (λ _. during s (stands_read told s t is)) le left');
   }
+
+  -- no call of the disk was made, or none that it tells of
+  pub untouched : (adopt : Bool) (moment : ℕ) (told : Option Standing) (now : ℕ) (now_told : Option Standing) → CountsMoments told moment → moment ≤ now → now_told ≡ told
+      → Unread (machine_of root limits) (MayAdopt adopt) (scene left pieces (disk_told moment told)) (scene left pieces (disk_told now now_told))
+  untouched adopt moment told now now_told counts later same = unread adopt moment told (disk_told now now_told) counts later (λ s stands. no_call told now_told _ same (λ c may. inl may))
+
+-- the lines that a server of the engine served
+pub runs_of : {D : Type 0} (moment_of : D → ℕ) (told : D → Option Standing) (left : Option (List ℕ)) (pieces : Option (List Piece)) (max_input : ℕ) (now : Scene) (ending : Ending) (root given : Parts) (engine kept : EngineNow D) (limits : Limits)
+    → given ≡ root → kept ≡ engine → engine.limits ≡ limits
+    → Runs (serving (record { root = given; limits = kept.limits })) kept.state max_input (scene left pieces (disk_at moment_of told kept.disk)) now ending
+    → Runs (machine_of root limits) engine.state max_input (scene left pieces (disk_at moment_of told engine.disk)) now ending
+runs_of {D} moment_of told left pieces max_input now ending root given engine kept limits r e l runs =
+    subst (λ (x : Limits). Runs (machine_of root x) engine.state max_input (scene left pieces (disk_at moment_of told engine.disk)) now ending) l
+    (subst (λ (x : EngineNow D). Runs (machine_of root x.limits) x.state max_input (scene left pieces (disk_at moment_of told x.disk)) now ending) e
+    (subst (λ (x : Parts). Runs (machine_of x kept.limits) kept.state max_input (scene left pieces (disk_at moment_of told kept.disk)) now ending) r runs))

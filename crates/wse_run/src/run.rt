@@ -22,6 +22,7 @@ use wse_server::{Served, serve};
 use wse_store::server_of;
 
 /// What a run over a store is held to.
+#[derive(Drop)]
 pub struct StoreRun {
     /// The URL below which the URIs of lines name paths: a file URL without host, query and fragment.
     pub root: Url,

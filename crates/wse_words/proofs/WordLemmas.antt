@@ -1,6 +1,6 @@
 -- Lists of words that are too short or too long.
 use Rattle.std.proofs.Common.{None, ◌≡◌, ℕ, ◌<◌, ◌≤◌, List, [], ◌∷◌, length, map, refl, arith}
-use Rattle.wse_words.specs.Words.{options_in, drill_in, run_in}
+use Rattle.wse_words.specs.Words.{options_in, run_in}
 
 pub many_options : {X : Type 0} (f : X → List ℕ) (xs : List X) → 4 ≤ length xs → options_in (map f xs) ≡ None
 many_options f [] l = absurd (omega arith)
@@ -8,17 +8,6 @@ many_options f (a ∷ []) l = absurd (omega arith)
 many_options f (a ∷ b ∷ []) l = absurd (omega arith)
 many_options f (a ∷ b ∷ c ∷ []) l = absurd (omega arith)
 many_options f (a ∷ b ∷ c ∷ d ∷ xs) l = refl
-
-pub few_numbers : {X : Type 0} (f : X → List ℕ) (xs : List X) → length xs < 2 → drill_in (map f xs) ≡ None
-few_numbers f [] l = refl
-few_numbers f (a ∷ []) l = refl
-few_numbers f (a ∷ b ∷ xs) l = absurd (omega arith)
-
-pub many_numbers : {X : Type 0} (f : X → List ℕ) (xs : List X) → 3 ≤ length xs → drill_in (map f xs) ≡ None
-many_numbers f [] l = absurd (omega arith)
-many_numbers f (a ∷ []) l = absurd (omega arith)
-many_numbers f (a ∷ b ∷ []) l = absurd (omega arith)
-many_numbers f (a ∷ b ∷ c ∷ xs) l = refl
 
 pub few_run : {X : Type 0} (f : X → List ℕ) (xs : List X) → length xs < 3 → run_in (map f xs) ≡ None
 few_run f [] l = refl

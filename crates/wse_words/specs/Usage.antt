@@ -5,6 +5,4 @@ use Rattle.std.specs.Prelude.{ℕ, List, ◌++◌, codes}
 abbrev pub usage_text : List ℕ
 usage_text =
     codes "usage: wsedit init TREE STORE\n"
-    ++ (codes "usage: wsedit run TREE STORE ROOT [--adopt] [--max-input N]\n"
-    ++ (codes "usage: wsedit show TREE STORE\n"
-    ++ codes "usage: wsedit drill SEED COUNT\n"))
+    ++ codes "usage: wsedit run TREE STORE ROOT [--adopt] [--max-input N]\n"

@@ -56,8 +56,6 @@ standard_input = 4294967296
 pub data Asked : Type 0 where
   Init : (tree store : List ℕ) → Asked
   Run : (tree store : List ℕ) (root : Parts) (adopt : Bool) (max_input : ℕ) → Asked
-  Show : (tree store : List ℕ) → Asked
-  Drill : (seed count : ℕ) → Asked
 
 -- What comes behind ROOT: whether differing paths are adopted, and the most bytes of input.
 pub record Options : Type 0 where
@@ -103,23 +101,10 @@ abbrev pub places_in : (List ℕ → List ℕ → Asked) → List (List ℕ) →
 places_in asked (tree ∷ store ∷ []) = if are_places tree store then Some (asked tree store) else None
 places_in asked words = None
 
--- A drill, where SEED and COUNT are understood.
-abbrev pub drill_with : Option ℕ → Option ℕ → Option Asked
-drill_with (Some seed) (Some count) = Some (Drill seed count)
-drill_with (Some seed) None = None
-drill_with None count = None
-
--- What comes behind `drill`: SEED from 0 to 2^64-1, COUNT from 0 to 20,000.
-abbrev pub drill_in : List (List ℕ) → Option Asked
-drill_in (seed ∷ count ∷ []) = drill_with (number_within 0 18446744073709551615 seed) (number_within 0 20000 count)
-drill_in words = None
-
 -- The lists of words that are understood, and what each asks for.
 abbrev pub asked_by : List (List ℕ) → Option Asked
 asked_by [] = None
 asked_by (command ∷ words) =
     if bytes_eq command (codes "init") then places_in Init words
     else (if bytes_eq command (codes "run") then run_in words
-    else (if bytes_eq command (codes "show") then places_in Show words
-    else (if bytes_eq command (codes "drill") then drill_in words
-    else None)))
+    else None)

@@ -1,6 +1,6 @@
 // Lists of words that are in the table, and some that aren't.
 ghost use Rattle.std.specs.Prelude.{◌≡◌, ◌∷◌, [], codes, Some, None, true, false};
-ghost use Rattle.wse_words.specs.Words.{Asked, Init, Drill, options_in, options, standard_input, number_within, places_in, drill_in, asked_by};
+ghost use Rattle.wse_words.specs.Words.{Asked, Init, options_in, options, standard_input, number_within, places_in, asked_by};
 
 /// Some lists of words.
 pub fn examples()
@@ -9,7 +9,6 @@ pub fn examples()
     ensures zero { options_in (codes "--max-input" ∷ codes "0" ∷ []) ≡ None }
     ensures leading { number_within 0 100 (codes "07") ≡ None }
     ensures nothing { number_within 0 100 (codes "0") ≡ Some 0 }
-    ensures drill { asked_by (codes "drill" ∷ codes "7" ∷ codes "2000" ∷ []) ≡ Some (Drill 7 2000) }
     ensures inside { asked_by (codes "init" ∷ codes "t" ∷ codes "t/s" ∷ []) ≡ None }
     ensures init { asked_by (codes "init" ∷ codes "t" ∷ codes "s" ∷ []) ≡ Some (Init (codes "t") (codes "s")) }
 {}

@@ -1,5 +1,5 @@
 // Numbers among the words.
-ghost use Rattle.std.specs.Prelude.{◌≡◌};
+ghost use Rattle.std.specs.Prelude.{◌≡◌, ◌≤◌, IfSome};
 ghost use Rattle.std.specs.List.{list_all};
 ghost use Rattle.wse_words.specs.Words.{is_digit, is_number, number_within};
 
@@ -22,7 +22,9 @@ fn is_number(word: &[u8]) -> bool
 
 /// The number that the word writes, if it lies between these.
 pub fn number_within(least: u64, most: u64, word: &str) -> Option<u64>
-    ensures { result ≡ number_within least most word.now }
+    ensures number { result ≡ number_within least most word.now }
+    ensures least { IfSome result (λ number. least ≤ number) }
+    ensures most { IfSome result (λ number. number ≤ most) }
 {
     if !is_number(word.as_bytes()) {
         return None;

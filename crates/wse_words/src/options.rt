@@ -1,5 +1,5 @@
 // What comes behind ROOT.
-ghost use Rattle.std.specs.Prelude.{◌≡◌, ◌∷◌, [], option_map};
+ghost use Rattle.std.specs.Prelude.{◌≡◌, ◌≤◌, ◌^◌, ◌∷◌, [], option_map};
 ghost use Rattle.wse_words.specs.Words.{texts_of, options_in, options, input_limit};
 ghost use Rattle.wse_words.specs.Read.{options_of};
 
@@ -12,6 +12,8 @@ pub struct Options {
     pub adopt: bool,
     /// The most bytes of input, from 1 to 2^62.
     pub max_input: u64,
+    ghost some: { 1 ≤ max_input },
+    ghost countable: { max_input ≤ 2 ^ 62 },
 }
 
 /// The most bytes of input where no word says it.

@@ -7,7 +7,5 @@ pub fn usage_text() -> &'static str
     ensures { result.now ≡ usage_text }
 {
     "usage: wsedit init TREE STORE\n\
-     usage: wsedit run TREE STORE ROOT [--adopt] [--max-input N]\n\
-     usage: wsedit show TREE STORE\n\
-     usage: wsedit drill SEED COUNT\n"
+     usage: wsedit run TREE STORE ROOT [--adopt] [--max-input N]\n"
 }

@@ -1,19 +1,15 @@
 // What the words ask for.
 ghost use Rattle.std.specs.Prelude.{◌≡◌, ℕ, List, ◌∷◌, [], IfOk, IfSome, is_some, option_map};
 ghost use Rattle.wse_uri.specs.FileUrl.{IsPlainFileUrl};
-ghost use Rattle.wse_words.specs.Words.{texts_of, are_places, root_of, run_in, places_in, drill_in, asked_by, Asked, Init, Run, Show};
+ghost use Rattle.wse_words.specs.Words.{texts_of, are_places, root_of, run_in, places_in, asked_by, Asked, Init, Run};
 ghost use Rattle.wse_words.specs.Read.{asked_of, HasPlainRoot};
 
-use crate::numbers::number_within;
 use crate::options::{Options, read_options};
 use crate::places::are_places;
 use std::alloc::Global;
 use url::Url;
 use wse_path::Memory;
 use wse_uri::{RootRefused, root_of};
-
-/// The most lines of a drill.
-const MOST_LINES: u64 = 20_000;
 
 /// TREE and STORE, as they are spelled.
 #[derive(Clone, Copy)]
@@ -32,13 +28,6 @@ pub enum Words<'a> {
         places: Places<'a>,
         root: Url,
         options: Options,
-    },
-    /// `show TREE STORE`
-    Show(Places<'a>),
-    /// `drill SEED COUNT`
-    Drill {
-        seed: u64,
-        count: u64,
     },
 }
 
@@ -72,39 +61,6 @@ fn read_init(words: &[String]) -> Option<Words<'_>>
     match read_places(words) {
         Some(places) => Some(Words::Init(places)),
         None => None,
-    }
-}
-
-/// What is behind `show`.
-fn read_show(words: &[String]) -> Option<Words<'_>>
-    ensures { option_map asked_of result ≡ places_in Show (texts_of words.now) }
-{
-    match read_places(words) {
-        Some(places) => Some(Words::Show(places)),
-        None => None,
-    }
-}
-
-/// SEED and COUNT.
-fn both_numbers<'a>(seed: &str, count: &str) -> Option<Words<'a>>
-    ensures { option_map asked_of result ≡ drill_in (seed.now ∷ count.now ∷ []) }
-{
-    match (
-        number_within(0, u64::MAX, seed),
-        number_within(0, MOST_LINES, count),
-    ) {
-        (Some(seed), Some(count)) => Some(Words::Drill { seed, count }),
-        _ => None,
-    }
-}
-
-/// What is behind `drill`.
-fn read_drill(words: &[String]) -> Option<Words<'_>>
-    ensures { option_map asked_of result ≡ drill_in (texts_of words.now) }
-{
-    match words {
-        [seed, count] => both_numbers(seed.as_str(), count.as_str()),
-        _ => None,
     }
 }
 
@@ -170,10 +126,6 @@ pub fn read_words(alloc: Global, words: &[String]) -> Result<Option<Words<'_>>, 
         Ok(read_init(more))
     } else if command == "run" {
         read_run(alloc, more)
-    } else if command == "show" {
-        Ok(read_show(more))
-    } else if command == "drill" {
-        Ok(read_drill(more))
     } else {
         Ok(None)
     }

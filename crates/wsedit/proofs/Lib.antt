@@ -1,3 +1,3 @@
-pub mod ByStatus
 pub mod StatusLemmas
-pub mod WordLemmas
+pub mod PathLemmas
+pub mod DoneLemmas

@@ -1,3 +1,3 @@
+pub mod Making
 pub mod Program
 pub mod Status
-pub mod Words

@@ -2,8 +2,11 @@
 #![tactic(auto)]
 
 mod end;
+mod making;
 mod program;
+mod running;
 mod status;
+mod telling;
 mod words;
 
 use crate::end::{end_without_words, exit_code};
@@ -13,9 +16,10 @@ use std::env;
 use std::io::{ErrorKind, Read, Write};
 use std::process::ExitCode;
 use std::rt::Env;
-use wse_disk::MemDisk;
+use wse_dir::DirDisk;
+use wse_disk::Place;
 use wse_io::{ReaderSource, WriterSink};
-use wse_path::{Memory, Tree};
+use wse_path::Memory;
 
 /// The words after the program's name. Where one isn't UTF-8 there are none, so that they aren't understood.
 fn program_words(rt: &(impl Env + AllocGlobal)) -> Result<Vec<String>, Memory> {
@@ -26,15 +30,15 @@ fn program_words(rt: &(impl Env + AllocGlobal)) -> Result<Vec<String>, Memory> {
     }
 }
 
-/// Runs over these streams, and over a disk in memory that is empty. The program ends with the status of its run.
-fn start<I: Read + Drop, O: Write + Drop, E: Write + Drop>(
+/// Runs over this disk and these streams. The program ends with the status of its run.
+fn start<D: Place + Drop, I: Read + Drop, O: Write + Drop, E: Write + Drop>(
     rt: &(impl Env + AllocGlobal),
+    disk: D,
     input: I,
     output: O,
     errors: E,
 ) -> ExitCode {
     let alloc = rt.alloc();
-    let disk = MemDisk::never_failing(alloc, Tree::new(alloc));
     let mut source = ReaderSource::new(input);
     let mut out = WriterSink::new(output);
     let mut errs = WriterSink::new(errors);
@@ -45,9 +49,10 @@ fn start<I: Read + Drop, O: Write + Drop, E: Write + Drop>(
     exit_code(&ended)
 }
 
-/// Runs over standard input, output and error.
+/// Runs over real folders, and over standard input, output and error.
 fn main(rt: HostRuntime) -> ExitCode {
-    start(&rt, rt.stdin(), rt.stdout(), rt.stderr())
+    let disk = DirDisk::new(rt);
+    start(&rt, disk, rt.stdin(), rt.stdout(), rt.stderr())
 }
 
 #[cfg(test)]

@@ -1,24 +1,25 @@
 // The whole program over any source, sinks and disk.
-ghost use Rattle.std.specs.Prelude.{◌≡◌, ◌⊎◌, None, Some};
-ghost use Rattle.url.specs.Parts.{Parts};
+ghost use Rattle.std.specs.Prelude.{◌≡◌, ◌⊎◌, true, None, Some};
 ghost use Rattle.wse_path.specs.Limits.{standard};
-ghost use Rattle.wse_serve.specs.Scene.{disk_at, scene, faults, Lasts};
-ghost use Rattle.wse_serve.specs.Ending.{ending_of, HasCauses};
-ghost use Rattle.wse_serve.specs.Start.{RunsEdits, TellsHit};
-ghost use Rattle.wsedit.specs.Status.{code_of, IsStatus, IsLineFor, IsHitOf, TellsLine, ending_by};
-ghost use Rattle.wsedit.specs.Words.{texts_of, run_root};
-ghost use Rattle.wsedit.specs.Program.{max_input};
+ghost use Rattle.wse_apply.specs.Limit.{are_within};
+ghost use Rattle.wse_stream.specs.Scene.{disk_at, scene, faults};
+ghost use Rattle.wse_words.specs.Words.{Asked, texts_of, asked_by};
+ghost use Rattle.wse_words.specs.Read.{asked_of, HasPlainRoot};
+ghost use Rattle.wse_run.specs.Causes.{CountFaults};
+ghost use Rattle.wse_run.specs.End.{ending_of};
+ghost use Rattle.wsedit.specs.Status.{code_of, IsStatus, ending_by};
+ghost use Rattle.wsedit.specs.Program.{Does, Ends};
+ghost use Rattle.wsedit.specs.declared.status.Status.TheVariants.{Ran};
 
+use crate::making::place_and_make;
+use crate::running::place_and_run;
 use crate::status::Status;
-use crate::words::{RunWords, read_words};
 use std::alloc::Global;
 use wse_disk::Place;
 use wse_io::{Sink, Source};
 use wse_path::{Limits, Memory};
-use wse_serve::{Bounds, ServeEnd, Served, Setting, serve_disk};
-
-/// The most bytes of input.
-const MAX_INPUT: u64 = 4_294_967_296;
+use wse_run::{RanStore, RunEnd, StoreRun};
+use wse_words::{Words, read_words};
 
 /// How a run ended, and the disk that was handed in.
 #[derive(Drop)]
@@ -27,37 +28,41 @@ pub struct Ended<D: Place> {
     pub disk: D,
 }
 
-/// Places the disk where the words say, and answers the lines of the source over the tree that it holds there.
-fn place_and_serve<S: Source, K: Sink, D: Place>(
+/// Does what the words ask for.
+fn do_words<S: Source, K: Sink, D: Place>(
     alloc: Global,
-    words: RunWords<'_>,
+    words: Words<'_>,
     source: &mut S,
     out: &mut K,
     disk: D,
-    bounds: Bounds,
-) -> Served<D>
-    ensures run { RunsEdits words.entry.root bounds.limits bounds.max_input
+    limits: Limits,
+) -> RanStore<D>
+    requires plain { HasPlainRoot words.entry }
+    requires within { are_within limits standard ≡ true }
+    ensures does { Does limits
         (scene (S.left source.old) (K.pieces out.old) (disk_at D.moment_of D.told disk))
         (scene (S.left source.new) (K.pieces out.new) (disk_at D.moment_of D.told result.disk))
-        (ending_of result.end) }
-    ensures too_big { TellsHit (D.told disk) bounds.limits result.end }
-    ensures lasts { Lasts (D.told disk) (D.told result.disk) (ending_of result.end).disk }
-    ensures causes { HasCauses (ending_of result.end)
+        (asked_of words.entry) (Ran result.end) }
+    ensures causes { CountFaults (ending_of result.end)
         (faults (S.faults source.old) (K.faults out.old) (D.faults disk))
         (faults (S.faults source.new) (K.faults out.new) (D.faults result.disk)) }
 {
-    let mut disk = disk;
-    let Ok(()) = disk.place(words.tree, words.store) else {
-        return Served {
-            disk,
-            end: ServeEnd::Disk,
-        };
-    };
-    let setting = Setting {
-        root: words.root,
-        bounds,
-    };
-    serve_disk(alloc, disk, &setting, source, out)
+    match words {
+        Words::Init(places) => place_and_make(alloc, places, disk, &limits),
+        Words::Run {
+            places,
+            root,
+            options,
+        } => {
+            let run = StoreRun {
+                root,
+                adopt: options.adopt,
+                limits,
+                max_input: options.max_input,
+            };
+            place_and_run(alloc, places, run, source, out, disk)
+        }
+    }
 }
 
 // How a run ended, before that is told.
@@ -66,26 +71,24 @@ struct Outcome<D: Place> {
     disk: D,
 }
 
-/// Runs what the words say.
+/// Reads the words, and does what they ask for.
 fn run_words<S: Source, K: Sink, D: Place>(
     alloc: Global,
     words: &[String],
     source: &mut S,
     out: &mut K,
     disk: D,
-    bounds: Bounds,
+    limits: Limits,
 ) -> Outcome<D>
-    ensures words { code_of result.status ≡ 2 → run_root (texts_of words.now) ≡ None }
-    ensures untouched { run_root (texts_of words.now) ≡ None → ((code_of result.status ≡ 2) ⊎ (code_of result.status ≡ 6))
+    requires { are_within limits standard ≡ true }
+    ensures words { code_of result.status ≡ 2 → asked_by (texts_of words.now) ≡ None }
+    ensures untouched { asked_by (texts_of words.now) ≡ None → ((code_of result.status ≡ 2) ⊎ (code_of result.status ≡ 6))
         × (result.disk ≡ disk) × (source.new ≡ source.old) × (out.new ≡ out.old) }
-    ensures run { (root : Parts) → run_root (texts_of words.now) ≡ Some root
-        → RunsEdits root bounds.limits bounds.max_input
+    ensures does { (asked : Asked) → asked_by (texts_of words.now) ≡ Some asked → Does limits
         (scene (S.left source.old) (K.pieces out.old) (disk_at D.moment_of D.told disk))
         (scene (S.left source.new) (K.pieces out.new) (disk_at D.moment_of D.told result.disk))
-        (ending_by (code_of result.status)) }
-    ensures too_big { IsHitOf (D.told disk) bounds.limits result.status }
-    ensures lasts { Lasts (D.told disk) (D.told result.disk) (ending_by (code_of result.status)).disk }
-    ensures causes { HasCauses (ending_by (code_of result.status))
+        asked result.status }
+    ensures causes { CountFaults (ending_by (code_of result.status))
         (faults (S.faults source.old) (K.faults out.old) (D.faults disk))
         (faults (S.faults source.new) (K.faults out.new) (D.faults result.disk)) }
 {
@@ -95,25 +98,32 @@ fn run_words<S: Source, K: Sink, D: Place>(
             disk,
         },
         Ok(Some(words)) => {
-            let Served { disk, end } = place_and_serve(alloc, words, source, out, disk, bounds);
-            let status = Status::of(end);
-            Outcome { status, disk }
+            let RanStore { disk, end } = do_words(alloc, words, source, out, disk, limits);
+            Outcome {
+                status: Status::Ran(end),
+                disk,
+            }
         }
         Err(Memory) => Outcome {
-            status: Status::Memory,
+            status: Status::Ran(RunEnd::Memory),
             disk,
         },
     }
 }
 
-/// Runs what the words say, and tells of the end at `errs`.
+/// Does what the words ask for, within these limits, and tells of the end at `errs`.
 ///
-/// - Status 0: the source was read to its end, every line is answered, and the disk has the last tree.
-/// - Status 2: the words aren't `run TREE STORE ROOT`. Nothing is touched.
+/// - Status 0: all was done. For `run` the source was read to its end, every line is answered, and what the disk holds stands
+///   for the last state.
+/// - Status 2: the words aren't understood. Nothing is touched.
 /// - Status 3, 4, 5: the source, `out` or the disk failed.
 /// - Status 6: there was no memory.
-/// - Status 8: the tree that the disk holds passes a limit. No line is read.
-/// - Status 9: the source gave one byte past the limit.
+/// - Status 7: the disk holds no store. No line is read.
+/// - Status 8: the tree passes a limit, or adopting would. No line is read.
+/// - Status 9: the source gave one byte past the most that are read as lines.
+/// - Status 10: a path isn't as the history says, or a file is in the way of an unsettled record. No line is read.
+///
+/// All of this is this project's own rule.
 pub fn run_within<S: Source, K: Sink, E: Sink, D: Place>(
     alloc: Global,
     words: &[String],
@@ -121,35 +131,32 @@ pub fn run_within<S: Source, K: Sink, E: Sink, D: Place>(
     out: &mut K,
     errs: &mut E,
     disk: D,
-    bounds: Bounds,
+    limits: Limits,
 ) -> Ended<D>
-    ensures words { result.status ≡ 2 → run_root (texts_of words.now) ≡ None }
-    ensures untouched { run_root (texts_of words.now) ≡ None → ((result.status ≡ 2) ⊎ (result.status ≡ 6))
+    requires { are_within limits standard ≡ true }
+    ensures words { result.status ≡ 2 → asked_by (texts_of words.now) ≡ None }
+    ensures untouched { asked_by (texts_of words.now) ≡ None → ((result.status ≡ 2) ⊎ (result.status ≡ 6))
         × (result.disk ≡ disk) × (source.new ≡ source.old) × (out.new ≡ out.old) }
-    ensures run { (root : Parts) → run_root (texts_of words.now) ≡ Some root
-        → RunsEdits root bounds.limits bounds.max_input
+    ensures ends { Ends limits
         (scene (S.left source.old) (K.pieces out.old) (disk_at D.moment_of D.told disk))
         (scene (S.left source.new) (K.pieces out.new) (disk_at D.moment_of D.told result.disk))
-        (ending_by result.status) }
-    ensures lasts { Lasts (D.told disk) (D.told result.disk) (ending_by result.status).disk }
-    ensures causes { HasCauses (ending_by result.status)
+        (asked_by (texts_of words.now)) result.status
+        (E.pieces errs.old) (E.pieces errs.new) (E.faults errs.old) (E.faults errs.new) }
+    ensures causes { CountFaults (ending_by result.status)
         (faults (S.faults source.old) (K.faults out.old) (D.faults disk))
         (faults (S.faults source.new) (K.faults out.new) (D.faults result.disk)) }
     ensures statuses { IsStatus result.status }
-    ensures told { TellsLine (IsLineFor (D.told disk) bounds.limits bounds.max_input result.status)
-        (E.pieces errs.old) (E.pieces errs.new) (E.faults errs.old) (E.faults errs.new) }
 {
-    let Outcome { status, disk } = run_words(alloc, words, source, out, disk, bounds);
+    let Outcome { status, disk } = run_words(alloc, words, source, out, disk, limits);
     // A fault of errs changes no status.
-    let _ = status.tell(errs, &disk, bounds.max_input);
+    let _ = status.tell(errs, &disk);
     Ended {
         status: status.code(),
         disk,
     }
 }
 
-/// Runs what the words say, and tells of the end at `errs`: `run_within` with 4,294,967,296 bytes of input at most, and the
-/// standard limits.
+/// Does what the words ask for, and tells of the end at `errs`: `run_within` with the standard limits.
 pub fn run<S: Source, K: Sink, E: Sink, D: Place>(
     alloc: Global,
     words: &[String],
@@ -158,27 +165,20 @@ pub fn run<S: Source, K: Sink, E: Sink, D: Place>(
     errs: &mut E,
     disk: D,
 ) -> Ended<D>
-    ensures words { result.status ≡ 2 → run_root (texts_of words.now) ≡ None }
-    ensures untouched { run_root (texts_of words.now) ≡ None → ((result.status ≡ 2) ⊎ (result.status ≡ 6))
+    ensures words { result.status ≡ 2 → asked_by (texts_of words.now) ≡ None }
+    ensures untouched { asked_by (texts_of words.now) ≡ None → ((result.status ≡ 2) ⊎ (result.status ≡ 6))
         × (result.disk ≡ disk) × (source.new ≡ source.old) × (out.new ≡ out.old) }
-    ensures run { (root : Parts) → run_root (texts_of words.now) ≡ Some root
-        → RunsEdits root standard max_input
+    ensures ends { Ends standard
         (scene (S.left source.old) (K.pieces out.old) (disk_at D.moment_of D.told disk))
         (scene (S.left source.new) (K.pieces out.new) (disk_at D.moment_of D.told result.disk))
-        (ending_by result.status) }
-    ensures lasts { Lasts (D.told disk) (D.told result.disk) (ending_by result.status).disk }
-    ensures causes { HasCauses (ending_by result.status)
+        (asked_by (texts_of words.now)) result.status
+        (E.pieces errs.old) (E.pieces errs.new) (E.faults errs.old) (E.faults errs.new) }
+    ensures causes { CountFaults (ending_by result.status)
         (faults (S.faults source.old) (K.faults out.old) (D.faults disk))
         (faults (S.faults source.new) (K.faults out.new) (D.faults result.disk)) }
     ensures statuses { IsStatus result.status }
-    ensures told { TellsLine (IsLineFor (D.told disk) standard max_input result.status)
-        (E.pieces errs.old) (E.pieces errs.new) (E.faults errs.old) (E.faults errs.new) }
 {
-    let bounds = Bounds {
-        max_input: MAX_INPUT,
-        limits: Limits::standard(),
-    };
-    run_within(alloc, words, source, out, errs, disk, bounds)
+    run_within(alloc, words, source, out, errs, disk, Limits::standard())
 }
 
 #[cfg(test)]

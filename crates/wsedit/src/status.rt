@@ -1,135 +1,90 @@
 // How a run ends, as a status and as a line for people.
-ghost use Rattle.std.specs.Prelude.{◌≡◌, ◌++◌, List, OnOk, codes, decimal};
+ghost use Rattle.std.specs.Prelude.{◌≡◌, List, OnOk};
 ghost use Rattle.wse_path.specs.Causes.{HasCause};
 ghost use Rattle.wse_io.specs.Stream.{Piece, Adds, IsPrefix, bytes_of};
-ghost use Rattle.wse_serve.specs.Limits.{limit_name};
-ghost use Rattle.wsedit.specs.Status.{code_of, status_of, line_of};
+ghost use Rattle.wsedit.specs.Status.{code_of, code_of_end, line_of, line_of_end};
 
-use itoa::Buffer;
+use crate::telling::{emit_number, emit_path, emit_two, too_big_words};
 use wse_disk::Disk;
 use wse_io::{Sink, WriteFailed, emit_all};
-use wse_path::{Hit, Which};
-use wse_serve::ServeEnd;
+use wse_run::RunEnd;
+use wse_words::usage_text;
 
-/// How a run ended.
-#[derive(Clone, Copy)]
+/// How the program ends.
+#[derive(Drop)]
 pub enum Status {
-    /// All was done.
-    Done,
     /// The words weren't understood.
     Words,
-    /// The source failed.
-    Read,
-    /// The sink of the answers failed.
-    Write,
-    /// The disk failed.
-    Disk,
-    /// There was no memory.
-    Memory,
-    /// The tree passes a limit.
-    TooBig(Hit),
-    /// The input was longer than its limit.
-    InputLimit,
+    /// What the words ask for was begun, and ended so.
+    Ran(RunEnd),
+}
+
+fn code_of_end(end: &RunEnd) -> u8
+    ensures { result ≡ code_of_end end.now }
+{
+    match end {
+        RunEnd::Done => 0,
+        RunEnd::Read => 3,
+        RunEnd::Write => 4,
+        RunEnd::Disk => 5,
+        RunEnd::Memory => 6,
+        RunEnd::NotAStore { at: _ } => 7,
+        RunEnd::TooBig(_) => 8,
+        RunEnd::InputLimit { limit: _ } => 9,
+        RunEnd::Differs(_) => 10,
+    }
+}
+
+/// Emits the line that tells people of an end, none at Done.
+fn tell_end<E: Sink, D: Disk>(end: &RunEnd, errs: &mut E, disk: &D) -> Result<(), WriteFailed>
+    ensures told { (told : List Piece) × Adds (E.pieces errs.old) (E.pieces errs.new) told
+        × IsPrefix (bytes_of told) (line_of_end end.now)
+        × OnOk result (bytes_of told ≡ line_of_end end.now) }
+    ensures cause { HasCause (E.faults errs.old) (E.faults errs.new) result }
+{
+    match end {
+        RunEnd::Done => emit_all(errs, disk, b""),
+        RunEnd::Read => emit_all(errs, disk, b"wsedit: reading failed\n"),
+        RunEnd::Write => emit_all(errs, disk, b"wsedit: writing failed\n"),
+        RunEnd::Disk => emit_all(errs, disk, b"wsedit: disk failed\n"),
+        RunEnd::Memory => emit_all(errs, disk, b"wsedit: out of memory\n"),
+        RunEnd::NotAStore { at } => {
+            emit_number(errs, disk, "wsedit: not a store: byte ", *at, "\n")
+        }
+        RunEnd::TooBig(hit) => {
+            emit_number(errs, disk, too_big_words(hit.which), hit.would_be, "\n")
+        }
+        RunEnd::InputLimit { limit } => {
+            emit_number(errs, disk, "wsedit: input past ", *limit, " bytes\n")
+        }
+        RunEnd::Differs(path) => emit_path(errs, disk, "wsedit: differs: ", path),
+    }
 }
 
 impl Status {
     /// The number with which the program ends.
-    pub fn code(self) -> u8
-        ensures { result ≡ code_of self }
+    pub fn code(&self) -> u8
+        ensures { result ≡ code_of self.now }
     {
         match self {
-            Status::Done => 0,
             Status::Words => 2,
-            Status::Read => 3,
-            Status::Write => 4,
-            Status::Disk => 5,
-            Status::Memory => 6,
-            Status::TooBig(_) => 8,
-            Status::InputLimit => 9,
+            Status::Ran(end) => code_of_end(end),
         }
     }
 
-    /// The status for an end of serving.
-    pub fn of(end: ServeEnd) -> Status
-        ensures { result ≡ status_of end }
-    {
-        match end {
-            ServeEnd::Done => Status::Done,
-            ServeEnd::Read => Status::Read,
-            ServeEnd::Write => Status::Write,
-            ServeEnd::Disk => Status::Disk,
-            ServeEnd::Memory => Status::Memory,
-            ServeEnd::InputLimit { .. } => Status::InputLimit,
-            ServeEnd::TooBig(hit) => Status::TooBig(hit),
-        }
-    }
-
-    /// Emits the line that tells people of the status, none at Done. Takes no memory.
-    pub fn tell<E: Sink, D: Disk>(
-        self,
-        errs: &mut E,
-        disk: &D,
-        max_input: u64,
-    ) -> Result<(), WriteFailed>
+    /// Emits the line that tells people of the status, none at Done; where the words weren't understood, with those that are.
+    /// Takes no memory.
+    pub fn tell<E: Sink, D: Disk>(&self, errs: &mut E, disk: &D) -> Result<(), WriteFailed>
         ensures told { (told : List Piece) × Adds (E.pieces errs.old) (E.pieces errs.new) told
-            × IsPrefix (bytes_of told) (line_of max_input self)
-            × OnOk result (bytes_of told ≡ line_of max_input self) }
+            × IsPrefix (bytes_of told) (line_of self.now)
+            × OnOk result (bytes_of told ≡ line_of self.now) }
         ensures cause { HasCause (E.faults errs.old) (E.faults errs.new) result }
     {
         match self {
-            Status::Done => emit_all(errs, disk, b""),
-            Status::Words => emit_all(errs, disk, b"wsedit: words not understood\n"),
-            Status::Read => emit_all(errs, disk, b"wsedit: reading failed\n"),
-            Status::Write => emit_all(errs, disk, b"wsedit: writing failed\n"),
-            Status::Disk => emit_all(errs, disk, b"wsedit: disk failed\n"),
-            Status::Memory => emit_all(errs, disk, b"wsedit: out of memory\n"),
-            Status::TooBig(hit) => {
-                emit_number(errs, disk, too_big_words(hit.which), hit.would_be, "\n")
+            Status::Words => {
+                emit_two(errs, disk, "wsedit: words not understood\n", usage_text())
             }
-            Status::InputLimit => emit_number(
-                errs,
-                disk,
-                "wsedit: input past ",
-                max_input,
-                " bytes\n",
-            ),
+            Status::Ran(end) => tell_end(end, errs, disk),
         }
     }
-}
-
-/// The words before the number that passes a starting tree's limit.
-fn too_big_words(which: Which) -> &'static str
-    ensures { result.now ≡ codes "wsedit: too big: " ++ (limit_name which ++ codes " ") }
-{
-    match which {
-        Which::Files => "wsedit: too big: files ",
-        Which::FileBytes => "wsedit: too big: file bytes ",
-        Which::TreeBytes => "wsedit: too big: tree bytes ",
-        Which::Known => "wsedit: too big: known ",
-        Which::Weight => "wsedit: too big: weight ",
-        Which::Serial => "wsedit: too big: serial ",
-    }
-}
-
-/// Emits the words before a number, the number, and the words behind it.
-fn emit_number<E: Sink, D: Disk>(
-    errs: &mut E,
-    disk: &D,
-    before: &str,
-    number: u64,
-    behind: &str,
-) -> Result<(), WriteFailed>
-    ensures told { (told : List Piece) × Adds (E.pieces errs.old) (E.pieces errs.new) told
-        × IsPrefix (bytes_of told) (before.now ++ (decimal number ++ behind.now))
-        × OnOk result (bytes_of told ≡ before.now ++ (decimal number ++ behind.now)) }
-    ensures cause { HasCause (E.faults errs.old) (E.faults errs.new) result }
-{
-    let mut buffer = Buffer::new();
-    let Ok(()) = emit_all(errs, disk, before.as_bytes()) else {
-        return Err(WriteFailed);
-    };
-    let Ok(()) = emit_all(errs, disk, buffer.format(number).as_bytes()) else {
-        return Err(WriteFailed);
-    };
-    emit_all(errs, disk, behind.as_bytes())
 }

@@ -24,35 +24,60 @@ const CREATED_THEN_EXISTS: &str =
 {"applied":false,"changed":{},"element":null,"failedChange":0,"failureReason":"exists","n":2,"skipped":[]}
 "#;
 
+const UNDO_A: &str = r#"{"do":"undo","uri":"file:///w/a"}
+"#;
+
+const UNDONE: &str = r#"{"changed":{"a":2},"element":1,"n":1,"result":"done"}
+"#;
+
+const LOOK_AT_A: &str = r#"{"do":"look","uri":"file:///w/a"}
+"#;
+
+const ADOPTED: &str =
+    r#"{"bytes":1,"future":null,"holder":null,"n":1,"past":1,"text":"q","version":2}
+"#;
+
 const NO_VERB: &str = "{\"at\":\"/do\",\"n\":1,\"refused\":\"field\"}\n";
 
-/// What a run works on, beside its input. The call with the number of a `fails` fails; 0 is none.
+const UNKNOWN_WORDS: &str = "wsedit: words not understood
+usage: wsedit init TREE STORE
+usage: wsedit run TREE STORE ROOT [--adopt] [--max-input N]
+";
+
+/// What a run works on, beside its disk and its input. The call with the number of a `fails` fails; 0 is none.
 #[derive(Clone, Copy)]
 struct Case {
     words: &'static str,
-    max_input: u64,
-    disk_fails: u64,
+    limits: Limits,
     source_fails: u64,
     out_fails: u64,
     errs_fails: u64,
 }
 
-const PLAIN: Case = Case {
-    words: GOOD_WORDS,
-    max_input: 1_000_000,
-    disk_fails: 0,
-    source_fails: 0,
-    out_fails: 0,
-    errs_fails: 0,
-};
-
-/// What a run left.
-#[derive(Drop)]
-struct Outcome {
+/// How a run ends: its status, its answers and its line at errs.
+#[derive(Clone, Copy)]
+struct End {
     status: u8,
-    out: MemSink,
-    errs: MemSink,
-    files: usize,
+    out: &'static str,
+    errs: &'static str,
+}
+
+fn case_of(words: &'static str) -> Case {
+    Case {
+        words,
+        limits: Limits::standard(),
+        source_fails: 0,
+        out_fails: 0,
+        errs_fails: 0,
+    }
+}
+
+fn done(out: &'static str) -> End {
+    End {
+        status: 0,
+        out,
+        errs: "",
+    }
 }
 
 /// The words of a command line, which spaces part.
@@ -73,30 +98,30 @@ fn source_of(alloc: Global, input: &str, fails: u64) -> Result<MemSource, Fail> 
     Ok(MemSource::new(bytes, 65_536, [fails].to_vec(alloc)?))
 }
 
-fn disk_of(alloc: Global, tree: Tree, fails: u64) -> Result<MemDisk, Fail> {
-    Ok(MemDisk::new(alloc, tree, [fails].to_vec(alloc)?))
-}
-
-fn bounds_of(case: &Case) -> Bounds {
-    Bounds {
-        max_input: case.max_input.max(1).min(1_000_000),
-        limits: Limits::standard(),
+/// No limit is above that of the program.
+fn within_standard(limits: Limits) -> Limits
+    ensures { are_within result standard ≡ true }
+{
+    let most = Limits::standard();
+    Limits {
+        files: limits.files.min(most.files),
+        ..most
     }
 }
 
-/// The run of the case within the bounds, over a disk that holds the tree.
-fn run_over(
+/// The disk after the run of the case over it, if it ended so.
+fn ended<D: Place + Drop>(
     alloc: Global,
     case: &Case,
-    bounds: Bounds,
-    tree: Tree,
+    disk: D,
     input: &str,
-) -> Result<Outcome, Fail> {
+    end: End,
+) -> Result<D, Fail> {
     let words = words_of(alloc, case.words)?;
-    let disk = disk_of(alloc, tree, case.disk_fails)?;
     let mut source = source_of(alloc, input, case.source_fails)?;
     let mut out = sink_of(alloc, case.out_fails)?;
     let mut errs = sink_of(alloc, case.errs_fails)?;
+    let limits = within_standard(case.limits);
     let Ended { status, disk } = run_within(
         alloc,
         &words,
@@ -104,37 +129,28 @@ fn run_over(
         &mut out,
         &mut errs,
         disk,
-        bounds,
+        limits,
     );
-    let files = disk.into_tree().count();
-    Ok(Outcome {
-        status,
-        out,
-        errs,
-        files,
-    })
-}
-
-impl Outcome {
-    /// Whether the run ended with the status, the answers, the line at errs and so many files.
-    fn is(&self, status: u8, out: &str, errs: &str, files: usize) -> bool {
-        let told = self.out.bytes() == out.as_bytes() && self.errs.bytes() == errs.as_bytes();
-        told && self.status == status && self.files == files
+    if status != end.status {
+        return Err(Fail::new("another status"));
     }
+    if out.bytes() != end.out.as_bytes() {
+        return Err(Fail::new("other answers"));
+    }
+    if errs.bytes() != end.errs.as_bytes() {
+        return Err(Fail::new("another line at errs"));
+    }
+    Ok(disk)
 }
 
-/// Whether the run over an empty disk ends with the status, the answers, the line at errs and so many files.
-fn ends(
-    alloc: Global,
-    case: &Case,
-    input: &str,
-    status: u8,
-    out: &str,
-    errs: &str,
-    files: usize,
-) -> Result<bool, Fail> {
-    let got = run_over(alloc, case, bounds_of(case), Tree::new(alloc), input)?;
-    Ok(got.is(status, out, errs, files))
+/// A disk on which a store was made over the tree.
+fn store_over(alloc: Global, tree: Tree) -> Result<MemDisk, Fail> {
+    let disk = MemDisk::never_failing(alloc, tree);
+    ended(alloc, &case_of("init t s"), disk, "", done(""))
+}
+
+fn empty_store(alloc: Global) -> Result<MemDisk, Fail> {
+    store_over(alloc, Tree::new(alloc))
 }
 
 const OTHER_WORDS: &str = "run t s
@@ -142,19 +158,26 @@ run t t/s file:///w
 run t s http://h/
 run t s w
 run t s file:///w x
+run t s file:///w --max-input 0
+init t t/s
 ran t s file:///w
 ";
 
-fn touch_nothing(alloc: Global, words: &'static str) -> Result<bool, Fail> {
-    let case = Case { words, ..PLAIN };
-    let line = "wsedit: words not understood\n";
-    ends(alloc, &case, CREATE_A, 2, "", line, 0)
+fn touch_nothing(alloc: Global, words: &'static str) -> Result<(), Fail> {
+    let end = End {
+        status: 2,
+        out: "",
+        errs: UNKNOWN_WORDS,
+    };
+    let disk = MemDisk::never_failing(alloc, Tree::new(alloc));
+    let _ = ended(alloc, &case_of(words), disk, CREATE_A, end)?;
+    Ok(())
 }
 
 #[test]
 fn words_that_are_not_understood_touch_nothing(rt: HostRuntime) -> Result<(), Fail> {
     for words in OTHER_WORDS.lines() {
-        assert!(rt; touch_nothing(rt.alloc(), words)?, "{words}");
+        touch_nothing(rt.alloc(), words)?;
     }
     Ok(())
 }
@@ -162,184 +185,191 @@ fn words_that_are_not_understood_touch_nothing(rt: HostRuntime) -> Result<(), Fa
 const ROOTS: &str = "run t s file:///w
 run t s file:///w/
 run t s file://localhost/w
-run t s file:///%77
+run t s file:///%77 --adopt
 ";
 
 const CREATE_A_BY_ANOTHER_NAME: &str =
     r#"{"do":"edit","edit":{"documentChanges":[{"kind":"create","uri":"file:///w/x/../%61"}]}}
 "#;
 
-fn has_the_root(alloc: Global, words: &'static str) -> Result<bool, Fail> {
-    let case = Case { words, ..PLAIN };
-    ends(alloc, &case, CREATE_A_BY_ANOTHER_NAME, 0, CREATED, "", 1)
+fn has_the_root(alloc: Global, words: &'static str) -> Result<(), Fail> {
+    let disk = empty_store(alloc)?;
+    let _ = ended(
+        alloc,
+        &case_of(words),
+        disk,
+        CREATE_A_BY_ANOTHER_NAME,
+        done(CREATED),
+    )?;
+    Ok(())
 }
 
 #[test]
 fn any_file_url_is_a_root(rt: HostRuntime) -> Result<(), Fail> {
     for words in ROOTS.lines() {
-        assert!(rt; has_the_root(rt.alloc(), words)?, "{words}");
+        has_the_root(rt.alloc(), words)?;
     }
     Ok(())
 }
 
-/// The disk's call with that number fails, and the one of errs with the other.
-fn disk_fails(alloc: Global, number: u64, errs_fails: u64, errs: &str) -> Result<bool, Fail> {
-    let case = Case {
-        disk_fails: number,
-        errs_fails,
-        ..PLAIN
-    };
-    ends(alloc, &case, CREATE_A_TWICE, 5, "", errs, 0)
-}
-
-#[test]
-fn a_fault_of_the_disk_has_status_5(rt: HostRuntime) -> Result<(), Fail> {
-    let alloc = rt.alloc();
-    let line = "wsedit: disk failed\n";
-    // It is placed, names its files, and stores the first.
-    assert!(rt; disk_fails(alloc, 1, 0, line)?);
-    assert!(rt; disk_fails(alloc, 2, 0, line)?);
-    assert!(rt; disk_fails(alloc, 3, 0, line)?);
-    assert!(rt; disk_fails(alloc, 3, 1, "")?);
-    Ok(())
-}
-
-fn second_read_fails(alloc: Global, input: &str, out: &str, files: usize) -> Result<bool, Fail> {
+fn second_read_fails(
+    alloc: Global,
+    input: &'static str,
+    out: &'static str,
+) -> Result<MemDisk, Fail> {
     let case = Case {
         source_fails: 2,
-        ..PLAIN
+        ..case_of(GOOD_WORDS)
     };
-    ends(
-        alloc,
-        &case,
-        input,
-        3,
+    let end = End {
+        status: 3,
         out,
-        "wsedit: reading failed\n",
-        files,
-    )
+        errs: "wsedit: reading failed\n",
+    };
+    ended(alloc, &case, empty_store(alloc)?, input, end)
 }
 
-fn second_answer_fails(alloc: Global) -> Result<bool, Fail> {
+fn second_answer_fails(alloc: Global) -> Result<MemDisk, Fail> {
     let case = Case {
         out_fails: 2,
-        ..PLAIN
+        ..case_of(GOOD_WORDS)
     };
-    ends(
-        alloc,
-        &case,
-        CREATE_A_TWICE,
-        4,
-        CREATED,
-        "wsedit: writing failed\n",
-        1,
-    )
+    let end = End {
+        status: 4,
+        out: CREATED,
+        errs: "wsedit: writing failed\n",
+    };
+    ended(alloc, &case, empty_store(alloc)?, CREATE_A_TWICE, end)
 }
 
-fn input_is_too_long(alloc: Global) -> Result<bool, Fail> {
+fn disk_fails(alloc: Global, errs_fails: u64, errs: &'static str) -> Result<MemDisk, Fail> {
     let case = Case {
-        max_input: 5,
-        ..PLAIN
+        errs_fails,
+        ..case_of("init t s")
     };
-    ends(
-        alloc,
-        &case,
-        "{}\n{}\n",
-        9,
-        NO_VERB,
-        "wsedit: input past 5 bytes\n",
-        0,
-    )
+    let end = End {
+        status: 5,
+        out: "",
+        errs,
+    };
+    let disk = MemDisk::new(alloc, Tree::new(alloc), [1].to_vec(alloc)?);
+    ended(alloc, &case, disk, "", end)
+}
+
+fn input_is_too_long(alloc: Global) -> Result<MemDisk, Fail> {
+    let end = End {
+        status: 9,
+        out: NO_VERB,
+        errs: "wsedit: input past 5 bytes\n",
+    };
+    let case = case_of("run t s file:///w --max-input 5");
+    ended(alloc, &case, empty_store(alloc)?, "{}\n{}\n", end)
 }
 
 #[test]
 fn a_fault_has_its_status_and_line(rt: HostRuntime) -> Result<(), Fail> {
     let alloc = rt.alloc();
-    assert!(rt; second_read_fails(alloc, CREATE_A_TWICE, CREATED_THEN_EXISTS, 1)?);
-    assert!(rt; second_read_fails(alloc, "{}\n", NO_VERB, 0)?);
-    assert!(rt; second_answer_fails(alloc)?);
-    assert!(rt; input_is_too_long(alloc)?);
+    let _ = second_read_fails(alloc, CREATE_A_TWICE, CREATED_THEN_EXISTS)?;
+    let _ = second_answer_fails(alloc)?;
+    let _ = disk_fails(alloc, 0, "wsedit: disk failed\n")?;
+    let _ = disk_fails(alloc, 1, "")?;
+    let _ = input_is_too_long(alloc)?;
     Ok(())
 }
 
 fn path_of(alloc: Global, name: &str) -> Result<RelPath, Fail> {
-    let mut segments = Vec::new(alloc);
-    segments.push(String::from_str(alloc, name)?)?;
-    Ok(RelPath::new(segments)?)
+    Ok(RelPath::from_text(alloc, name)?)
 }
 
-fn put_empty(alloc: Global, tree: &mut Tree, name: &str) -> Result<(), Fail> {
+fn put(alloc: Global, tree: &mut Tree, name: &str, bytes: &str) -> Result<(), Fail> {
     let path = path_of(alloc, name)?;
     if !tree.fits(&path) {
         return Err(Fail::new("no room for the file"));
     }
-    tree.put(path, Bytes::new(Vec::new(alloc)))?;
+    tree.put(path, Bytes::new(bytes.as_bytes().to_vec(alloc)?))?;
     Ok(())
 }
 
 fn two_files(alloc: Global) -> Result<Tree, Fail> {
     let mut tree = Tree::new(alloc);
-    put_empty(alloc, &mut tree, "a")?;
-    put_empty(alloc, &mut tree, "b")?;
+    put(alloc, &mut tree, "a", "")?;
+    put(alloc, &mut tree, "b", "")?;
     Ok(tree)
 }
 
-fn one_file_at_most() -> Bounds {
-    Bounds {
-        max_input: 1_000_000,
-        limits: Limits {
-            files: 1,
-            ..Limits::standard()
-        },
-    }
-}
-
-fn two_files_are_too_many(alloc: Global) -> Result<bool, Fail> {
-    let bounds = one_file_at_most();
-    let got = run_over(alloc, &PLAIN, bounds, two_files(alloc)?, CREATE_A)?;
-    Ok(got.is(8, "", "wsedit: too big: files 2\n", 2))
+fn is_too_big(alloc: Global, words: &'static str, disk: MemDisk) -> Result<MemDisk, Fail> {
+    let limits = Limits {
+        files: 1,
+        ..Limits::standard()
+    };
+    let case = Case {
+        limits,
+        ..case_of(words)
+    };
+    let end = End {
+        status: 8,
+        out: "",
+        errs: "wsedit: too big: files 2\n",
+    };
+    ended(alloc, &case, disk, CREATE_A, end)
 }
 
 #[test]
 fn a_tree_that_is_too_big_has_status_8(rt: HostRuntime) -> Result<(), Fail> {
-    assert!(rt; two_files_are_too_many(rt.alloc())?);
+    let alloc = rt.alloc();
+    let tree = two_files(alloc)?;
+    let _ = is_too_big(alloc, "init t s", MemDisk::never_failing(alloc, tree))?;
+    let tree = two_files(alloc)?;
+    let _ = is_too_big(alloc, GOOD_WORDS, store_over(alloc, tree)?)?;
     Ok(())
 }
 
-/// No path may have a version: one of one byte counts 33.
-fn nothing_known() -> Bounds {
-    Bounds {
-        max_input: 1_000_000,
-        limits: Limits {
-            known: 32,
-            ..Limits::standard()
-        },
-    }
+#[test]
+fn a_run_goes_on_from_the_last(rt: HostRuntime) -> Result<(), Fail> {
+    let alloc = rt.alloc();
+    let case = case_of(GOOD_WORDS);
+    let disk = ended(alloc, &case, empty_store(alloc)?, CREATE_A, done(CREATED))?;
+    let disk = ended(alloc, &case, disk, "", done(""))?;
+    let _ = ended(alloc, &case, disk, UNDO_A, done(UNDONE))?;
+    Ok(())
 }
 
-const TOO_MUCH_KNOWN: &str =
-    r#"{"applied":false,"changed":{},"element":null,"failureReason":"limit known: 33","n":1,"skipped":[]}
-"#;
-
-fn an_edit_passes_known(alloc: Global) -> Result<bool, Fail> {
-    let got = run_over(alloc, &PLAIN, nothing_known(), Tree::new(alloc), CREATE_A)?;
-    Ok(got.is(0, TOO_MUCH_KNOWN, "", 0))
+/// A store whose file `a` another program changed.
+fn changed_outside(alloc: Global) -> Result<MemDisk, Fail> {
+    let case = case_of(GOOD_WORDS);
+    let mut disk = ended(alloc, &case, empty_store(alloc)?, CREATE_A, done(CREATED))?;
+    let path = path_of(alloc, "a")?;
+    if !disk.has_room(&path) {
+        return Err(Fail::new("no room for the file"));
+    }
+    disk.store(&path, b"q")?;
+    disk.sync()?;
+    Ok(disk)
 }
 
 #[test]
-fn an_edit_that_passes_known_changes_nothing(rt: HostRuntime) -> Result<(), Fail> {
-    assert!(rt; an_edit_passes_known(rt.alloc())?);
+fn what_differs_is_adopted_where_the_words_say_so(rt: HostRuntime) -> Result<(), Fail> {
+    let alloc = rt.alloc();
+    let end = End {
+        status: 10,
+        out: "",
+        errs: "wsedit: differs: a\n",
+    };
+    let disk = changed_outside(alloc)?;
+    let disk = ended(alloc, &case_of(GOOD_WORDS), disk, LOOK_AT_A, end)?;
+    let case = case_of("run t s file:///w --adopt");
+    let _ = ended(alloc, &case, disk, LOOK_AT_A, done(ADOPTED))?;
     Ok(())
 }
 
 /// A disk without files, which keeps nothing. It counts how often it is placed, compares the words, and knows whether it
-/// was read before that.
+/// was synced before that.
 #[derive(Drop)]
 struct Blank {
     faults: u64,
     places: u8,
     as_said: bool,
-    read_too_early: bool,
+    used_too_early: bool,
 }
 
 impl Disk for Blank {
@@ -356,7 +386,6 @@ impl Disk for Blank {
     }
 
     fn names(&mut self, _alloc: Global, into: &mut Vec<RelPath>) -> Result<(), ReadErr> {
-        self.read_too_early = self.places == 0;
         into.clear();
         Ok(())
     }
@@ -396,6 +425,7 @@ impl Disk for Blank {
     }
 
     fn sync(&mut self) -> Result<(), Failed> {
+        self.used_too_early = self.used_too_early || self.places == 0;
         Ok(())
     }
 }
@@ -414,27 +444,18 @@ fn placed_by(alloc: Global, words: &str) -> Result<Blank, Fail> {
         faults: 0,
         places: 0,
         as_said: false,
-        read_too_early: false,
+        used_too_early: false,
     };
     let mut source = source_of(alloc, CREATE_A, 0)?;
     let mut out = sink_of(alloc, 0)?;
     let mut errs = sink_of(alloc, 0)?;
-    let bounds = bounds_of(&PLAIN);
-    let Ended { status: _, disk } = run_within(
-        alloc,
-        &words,
-        &mut source,
-        &mut out,
-        &mut errs,
-        disk,
-        bounds,
-    );
+    let Ended { status: _, disk } = run(alloc, &words, &mut source, &mut out, &mut errs, disk);
     Ok(disk)
 }
 
-fn is_placed_once_as_said(alloc: Global) -> Result<bool, Fail> {
-    let disk = placed_by(alloc, GOOD_WORDS)?;
-    Ok(disk.places == 1 && disk.as_said && !disk.read_too_early)
+fn is_placed_once_as_said(alloc: Global, words: &str) -> Result<bool, Fail> {
+    let disk = placed_by(alloc, words)?;
+    Ok(disk.places == 1 && disk.as_said && !disk.used_too_early)
 }
 
 fn is_not_placed(alloc: Global) -> Result<bool, Fail> {
@@ -444,7 +465,8 @@ fn is_not_placed(alloc: Global) -> Result<bool, Fail> {
 
 #[test]
 fn the_disk_is_placed_once_where_the_words_say(rt: HostRuntime) -> Result<(), Fail> {
-    assert!(rt; is_placed_once_as_said(rt.alloc())?);
+    assert!(rt; is_placed_once_as_said(rt.alloc(), GOOD_WORDS)?);
+    assert!(rt; is_placed_once_as_said(rt.alloc(), "init t s")?);
     assert!(rt; is_not_placed(rt.alloc())?);
     Ok(())
 }

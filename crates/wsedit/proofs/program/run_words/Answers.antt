@@ -1,20 +1,17 @@
-use Rattle.std.proofs.Common.{refl, ◌∙◌, arith}
-use Rattle.wse_disk.specs.Told.{files_of}
-use Rattle.wse_serve.specs.Scene.{disk_at}
-use Rattle.wse_serve.specs.declared.serving.ServeEnd.TheVariants.{Memory}
-use Rattle.wse_serve.proofs.Starting.{first_state, first_start, edits_unread}
-use Rattle.wsedit.proofs.ByStatus.{by_code, same_root}
+use Rattle.wsedit.proofs.StatusLemmas.{not_words}
+use Rattle.wsedit.proofs.DoneLemmas.{no_memory, does_asked, causes_by}
 use Rattle.wsedit.proofs.program.run_words.Goals as goal
 
--- there was no memory for the root
-pub returns-in-Err-clause-run : goal.returns-in-Err-clause-run
-returns-in-Err-clause-run g c = λ root is.
-    let at = disk_at g.D.Disk.moment_of g.D.Disk.told in
-    edits_unread root c.args.bounds.limits c.args.bounds.max_input _ _ (at c.args.disk) (at c.args.disk) (first_state (files_of (g.D.Disk.told c.args.disk))) Memory tt (λ e. cc)
-    (omega arith) (first_start (g.D.Disk.told c.args.disk)) refl
+pub returns-in-Ok-Some-clause-words : goal.returns-in-Ok-Some-clause-words
+returns-in-Ok-Some-clause-words g c = λ e. absurd (not_words c.do_words-disk.result.end e)
 
--- the run by its status
-pub returns-in-Ok-Some-clause-run : goal.returns-in-Ok-Some-clause-run
-returns-in-Ok-Some-clause-run g c = λ root is.
-    let read = rw c.in-Ok-Some.field-0-is at c.in-Ok-Some.ensures.root in
-    by_code root c.in-Ok-Some.words.root c.args.bounds.limits c.args.bounds.max_input _ _ c.place_and_serve-disk.result.end c.of-status.result (same_root c.in-Ok-Some.words.root root (read ∙ is)) c.of-status.ensures c.place_and_serve-disk.ensures.run
+pub returns-in-Ok-Some-clause-does : goal.returns-in-Ok-Some-clause-does
+returns-in-Ok-Some-clause-does g c = λ asked is.
+    let read = rw c.in-Ok-Some.field-0-is at c.in-Ok-Some.ensures.asked in
+    does_asked c.args.limits _ _ _ _ asked _ read is c.do_words-disk.ensures.does
+
+pub returns-in-Ok-Some-clause-causes : goal.returns-in-Ok-Some-clause-causes
+returns-in-Ok-Some-clause-causes g c = causes_by c.do_words-disk.result.end _ _ c.do_words-disk.ensures.causes
+
+pub returns-in-Err-clause-does : goal.returns-in-Err-clause-does
+returns-in-Err-clause-does g c = λ asked is. no_memory c.args.limits _ asked (g.met.D.Disk.counts_moments c.args.disk)
