@@ -2,3 +2,4 @@ pub mod AdoptLemmas
 pub mod OpeningLemmas
 pub mod RefusalLemmas
 pub mod EarlierLemmas
+pub mod CompleteLemmas

@@ -1,4 +1,5 @@
 pub mod Causes
+pub mod Complete
 pub mod End
 pub mod Fault
 pub mod Opening

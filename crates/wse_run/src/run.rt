@@ -1,11 +1,13 @@
 // A store is opened, and the lines of a source are answered.
-ghost use Rattle.std.specs.Prelude.{◌≡◌, ◌≤◌, ◌^◌, true};
+ghost use Rattle.std.specs.Prelude.{◌≡◌, ◌≤◌, ◌^◌, true, Some};
 ghost use Rattle.wse_path.specs.Limits.{standard};
 ghost use Rattle.wse_apply.specs.Limit.{are_within};
+ghost use Rattle.wse_disk.specs.Standing.{Standing};
 ghost use Rattle.wse_uri.specs.FileUrl.{IsPlainFileUrl};
 ghost use Rattle.wse_stream.specs.Scene.{disk_at, scene, faults};
 ghost use Rattle.wse_recover.specs.Open.{disk_of_fault};
 ghost use Rattle.wse_run.specs.Causes.{CountFaults};
+ghost use Rattle.wse_run.specs.Complete.{IsOpenable, IsCalm, IsDoneOrStarved};
 ghost use Rattle.wse_run.specs.End.{ending_of};
 ghost use Rattle.wse_run.specs.Fault.{end_of_fault};
 ghost use Rattle.wse_run.specs.Run.{RunsStore};
@@ -79,6 +81,8 @@ fn unopened<D: Disk>(fault: OpenFault<D>) -> RanStore<D>
 ///   answers. Before the first piece it may also be what a crash might have left at the start, or what stands for the state
 ///   for which the disk was opened.
 /// - A store that isn't opened says exactly why, and no line is read.
+/// - Where nothing fails, none of the causes for a refusal holds and the source has no more bytes than may be read, all is
+///   done, unless there is no memory.
 pub fn run_store<D: Disk, S: Source, K: Sink>(
     alloc: Global,
     disk: D,
@@ -97,6 +101,11 @@ pub fn run_store<D: Disk, S: Source, K: Sink>(
     ensures causes { CountFaults (ending_of result.end)
         (faults (S.faults source.old) (K.faults out.old) (D.faults disk))
         (faults (S.faults source.new) (K.faults out.new) (D.faults result.disk)) }
+    ensures complete { (s : Standing) → D.told disk ≡ Some s → IsOpenable run.adopt run.limits s.reading
+        → IsCalm run.max_input (S.left source.old)
+        (faults (S.faults source.old) (K.faults out.old) (D.faults disk))
+        (faults (S.faults source.new) (K.faults out.new) (D.faults result.disk))
+        → IsDoneOrStarved result.end }
 {
     let StoreRun {
         root,

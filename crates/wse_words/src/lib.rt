@@ -1,6 +1,7 @@
 // The words of the command line, and how they are read.
 #![tactic(auto)]
 
+mod behind_root;
 pub mod laws;
 mod numbers;
 mod options;

@@ -4,7 +4,8 @@ ghost use Rattle.wse_uri.specs.FileUrl.{IsPlainFileUrl};
 ghost use Rattle.wse_words.specs.Words.{texts_of, are_places, root_of, run_in, places_in, asked_by, Asked, Init, Run};
 ghost use Rattle.wse_words.specs.Read.{asked_of, HasPlainRoot};
 
-use crate::options::{Options, read_options};
+use crate::behind_root::read_options;
+use crate::options::Options;
 use crate::places::are_places;
 use std::alloc::Global;
 use url::Url;

@@ -1,9 +1,9 @@
 -- Lines that are emitted in several pieces, and the numbers of statuses.
-use Rattle.std.proofs.Common.{◌≡◌, ◌⊎◌, inl, inr, ℕ, List, ◌++◌, Option, Result, Ok, Err, refl, sym, ap, subst, ◌∙◌, arith}
+use Rattle.std.proofs.Common.{◌≡◌, ◌⊎◌, inl, inr, ℕ, List, ◌++◌, Option, Result, Ok, Err, refl, sym, ap, subst, ◌∙◌, arith, append_assoc}
 use Rattle.std.specs.Prelude.{OnOk}
 use Rattle.wse_path.specs.Causes.{Rose, HasCause}
 use Rattle.wse_io.specs.Stream.{Piece, Adds, IsPrefix, bytes_of}
-use Rattle.wse_io.proofs.StreamLemmas.{adds_more, bytes_of-append, prefix_behind}
+use Rattle.wse_io.proofs.StreamLemmas.{adds_more, bytes_of-append, prefix_of, prefix_behind}
 use Rattle.wse_run.specs.End.{ending_of}
 use Rattle.wse_run.specs.declared.end.RunEnd.{RunEnd}
 use Rattle.wse_run.specs.declared.end.RunEnd.TheVariants.{Done, Read, Write, Disk, Memory, NotAStore, TooBig, InputLimit, Differs}
@@ -19,6 +19,18 @@ told_behind old mid new ps qs first rest a whole b front =
 
 pub told_whole : (ps qs : List Piece) (first rest : List ℕ) → bytes_of ps ≡ first → bytes_of qs ≡ rest → bytes_of (ps ++ qs) ≡ first ++ rest
 told_whole ps qs first rest a b = bytes_of-append ps qs ∙ ap (λ l. l ++ bytes_of qs) a ∙ ap (λ l. first ++ l) b
+
+-- what was told so far, and a front of the next part
+pub told_front : (old mid new : Option (List Piece)) (ps qs : List Piece) (part more whole : List ℕ) → Adds old mid ps → bytes_of ps ++ (part ++ more) ≡ whole → Adds mid new qs → IsPrefix (bytes_of qs) part
+    → Adds old new (ps ++ qs) × IsPrefix (bytes_of (ps ++ qs)) whole
+told_front old mid new ps qs part more whole a is b front =
+    (adds_more old mid new ps qs a b, subst (λ l. IsPrefix l whole) (sym (bytes_of-append ps qs)) (subst (λ l. IsPrefix (bytes_of ps ++ bytes_of qs) l) is (prefix_behind (bytes_of ps) (bytes_of qs) (part ++ more) (prefix_of (bytes_of qs) part more front))))
+
+-- what was told so far, and the whole next part
+pub told_part : (old mid new : Option (List Piece)) (ps qs : List Piece) (part more whole : List ℕ) → Adds old mid ps → bytes_of ps ++ (part ++ more) ≡ whole → Adds mid new qs → bytes_of qs ≡ part
+    → Adds old new (ps ++ qs) × (bytes_of (ps ++ qs) ++ more ≡ whole)
+told_part old mid new ps qs part more whole a is b all =
+    (adds_more old mid new ps qs a b, ap (λ l. l ++ more) (bytes_of-append ps qs ∙ ap (λ l. bytes_of ps ++ l) all) ∙ append_assoc (bytes_of ps) part more ∙ is)
 
 -- all was told, or the sink failed
 pub told_or_rose : {P T E : Type 0} (r : Result T E) (before now : ℕ) → OnOk r P → HasCause before now r → P ⊎ Rose before now

@@ -7,6 +7,7 @@ use Rattle.wse_engine.specs.Engine.{EngineNow}
 use Rattle.wse_run.specs.Causes.{CountFaults}
 use Rattle.wse_run.specs.End.{ending_of, end_of_served}
 use Rattle.wse_run.specs.Run.{machine_of, RunsStore}
+use Rattle.wse_run.proofs.CompleteLemmas.{complete}
 use Rattle.wse_run.proofs.OpeningLemmas.{served, unread, runs_of}
 use Rattle.wse_run.proofs.RefusalLemmas.{unopened_by, unopened_causes, ending_served, is_served, served_causes}
 use Rattle.wse_run.proofs.run.run_store.Goals as goal
@@ -53,3 +54,12 @@ returns-clause-causes g c =
     (served_causes run.max_input end _ now
     (subst (λ n. HasCauses (ending_of_serving end) (faults (g.S.Source.faults c.args.source.now) (g.K.Sink.faults c.args.out.now) n) now)
     (ap (λ (e : EngineNow g.row.D.Denot). count e.disk) c.server_of-server.ensures.engine ∙ c.in-Ok.ensures.kept) c.serve-disk.ensures.causes))
+
+-- nothing stood in the way
+pub returns-in-Err-clause-complete : goal.returns-in-Err-clause-complete
+returns-in-Err-clause-complete g c = λ s told is calm.
+    complete c.args.run.root c.args.run.adopt c.args.run.limits c.args.run.max_input _ _ s told is _ _ calm c.unopened.result.end (returns-in-Err-clause-causes g c) (returns-in-Err-clause-run g c)
+
+pub returns-clause-complete : goal.returns-clause-complete
+returns-clause-complete g c = λ s told is calm.
+    complete c.args.run.root c.args.run.adopt c.args.run.limits c.args.run.max_input _ _ s told is _ _ calm c.end_of_served.result (returns-clause-causes g c) (returns-clause-run g c)
