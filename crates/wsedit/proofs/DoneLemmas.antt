@@ -1,26 +1,33 @@
 -- What is done, by what the words ask for.
-use Rattle.std.proofs.Common.{◌≡◌, ℕ, ◌≤◌, List, Option, Some, None, refl, sym, subst, ◌∙◌, arith}
+use Rattle.std.proofs.Common.{◌≡◌, ◌⊎◌, inl, inr, ⊎_elim, ℕ, ◌≤◌, List, Option, Some, None, refl, sym, ap, subst, ◌∙◌, arith}
 use Rattle.std.specs.Prelude.{Bool}
+use Rattle.url.specs.Parts.{Parts}
+use Rattle.wse_path.specs.Causes.{Rose}
 use Rattle.wse_path.specs.declared.limits.Limits.{Limits}
+use Rattle.wse_path.specs.declared.limits.Hit.{Hit}
 use Rattle.wse_disk.specs.Standing.{Standing}
 use Rattle.wse_disk.specs.Told.{MayLeave, CountsMoments}
 use Rattle.wse_disk.specs.Calls.{Told}
 use Rattle.wse_disk.proofs.Moments.{no_call}
 use Rattle.wse_stream.specs.Runs.{Ending}
 use Rattle.wse_stream.specs.Scene.{Scene, Faults, faults}
+use Rattle.wse_recover.specs.Measure.{TellsHit}
+use Rattle.wse_recover.specs.Start.{start_hit}
 use Rattle.wse_recover.specs.Untouched.{IsUntouched}
 use Rattle.wse_words.specs.Words.{Asked, Init, Run}
 use Rattle.wse_run.specs.Causes.{RoseWhere, CountFaults}
+use Rattle.wse_run.specs.Complete.{IsOpenable, IsCalm}
 use Rattle.wse_run.specs.End.{ending_of}
 use Rattle.wse_run.specs.Run.{Failed}
 use Rattle.wse_run.specs.declared.end.RunEnd.{RunEnd}
 use Rattle.wse_run.specs.declared.end.RunEnd.TheVariants.{Done, Read, Write, Disk, Memory, NotAStore, TooBig, InputLimit, Differs}
+use Rattle.wse_run.proofs.CompleteLemmas.{complete}
 use Rattle.wse_run.proofs.OpeningLemmas.{untouched}
 use Rattle.wsedit.specs.Making.{HasMadeOr}
 use Rattle.wsedit.specs.Program.{Does}
-use Rattle.wsedit.specs.Status.{code_of_end, ending_by}
+use Rattle.wsedit.specs.Status.{code_of, code_of_end, ending_by}
 use Rattle.wsedit.specs.declared.status.Status.{Status}
-use Rattle.wsedit.specs.declared.status.Status.TheVariants.{Ran}
+use Rattle.wsedit.specs.declared.status.Status.TheVariants.{Words, Ran}
 use Rattle.wsedit.proofs.StatusLemmas.{ending_code}
 
 reads_itself : (told : Option Standing) → Told (λ s t. t.reading ≡ s.reading) told told
@@ -60,3 +67,30 @@ asked_is a b e = cc
 -- what was asked for is what the words ask for
 pub does_asked : (limits : Limits) (before now : Scene) (status : Status) (given asked : Asked) (by : Option Asked) → Some given ≡ by → by ≡ Some asked → Does limits before now given status → Does limits before now asked status
 does_asked limits before now status given asked by read is does = subst (λ (a : Asked). Does limits before now a status) (asked_is given asked (read ∙ is)) does
+
+none_some : (o : Option Hit) (hit : Hit) → o ≡ None → o ≡ Some hit → ⊥
+none_some None hit e h = cc
+none_some (Some x) hit e h = cc
+
+-- a run that can't but be done, by its status
+pub done_by : (limits : Limits) (before now : Scene) (counts counts' : Faults) (tree store : List ℕ) (root : Parts) (adopt : Bool) (max_input : ℕ) (end : Status) (s : Standing) → before.disk.told ≡ Some s → IsOpenable adopt limits s.reading
+    → IsCalm max_input before.left counts counts' → CountFaults (ending_by (code_of end)) counts counts' → Does limits before now (Run tree store root adopt max_input) end → (code_of end ≡ 0) ⊎ (code_of end ≡ 6)
+done_by limits before now counts counts' tree store root adopt max_input Words s told is calm causes does = absurd does
+done_by limits before now counts counts' tree store root adopt max_input (Ran end) s told is calm causes does =
+    ⊎_elim (λ done. inl (ap code_of_end done)) (λ starved. inr (ap code_of_end starved))
+    (complete root adopt limits max_input before now s told is counts counts' calm end (subst (λ (e : Ending). CountFaults e counts counts') (ending_code end) causes) does)
+
+-- a store that can't but be made
+pub made_by : (limits : Limits) (before now : Scene) (counts counts' : Faults) (tree store : List ℕ) (end : Status) (s : Standing) → before.disk.told ≡ Some s → start_hit limits s.reading.files ≡ None
+    → (Rose counts.disk counts'.disk → ⊥) → CountFaults (ending_by (code_of end)) counts counts' → Does limits before now (Init tree store) end → (code_of end ≡ 0) ⊎ (code_of end ≡ 6)
+made_by limits before now counts counts' tree store Words s told fits calm causes does = absurd does
+made_by limits before now counts counts' tree store (Ran Done) s told fits calm causes does = inl refl
+made_by limits before now counts counts' tree store (Ran Read) s told fits calm causes does = absurd does.made
+made_by limits before now counts counts' tree store (Ran Write) s told fits calm causes does = absurd does.made
+made_by limits before now counts counts' tree store (Ran Disk) s told fits calm causes does = absurd (calm causes.disk)
+made_by limits before now counts counts' tree store (Ran Memory) s told fits calm causes does = inr refl
+made_by limits before now counts counts' tree store (Ran (NotAStore at)) s told fits calm causes does = absurd does.made
+made_by limits before now counts counts' tree store (Ran (TooBig hit)) s told fits calm causes does =
+    let hits : start_hit limits s.reading.files ≡ Some hit = subst (λ (t : Option Standing). TellsHit t limits (Some hit)) told does.made.0 in absurd (none_some _ hit fits hits)
+made_by limits before now counts counts' tree store (Ran (InputLimit limit)) s told fits calm causes does = absurd does.made
+made_by limits before now counts counts' tree store (Ran (Differs p)) s told fits calm causes does = absurd does.made

@@ -1,11 +1,16 @@
 // The whole program over any source, sinks and disk.
-ghost use Rattle.std.specs.Prelude.{◌≡◌, ◌⊎◌, true, None, Some};
+ghost use Rattle.std.specs.Prelude.{◌≡◌, ◌⊎◌, ℕ, Bool, true, List, None, Some};
+ghost use Rattle.url.specs.Parts.{Parts};
+ghost use Rattle.wse_path.specs.Causes.{Rose};
 ghost use Rattle.wse_path.specs.Limits.{standard};
 ghost use Rattle.wse_apply.specs.Limit.{are_within};
+ghost use Rattle.wse_disk.specs.Standing.{Standing};
+ghost use Rattle.wse_recover.specs.Start.{start_hit};
 ghost use Rattle.wse_stream.specs.Scene.{disk_at, scene, faults};
-ghost use Rattle.wse_words.specs.Words.{Asked, texts_of, asked_by};
+ghost use Rattle.wse_words.specs.Words.{Asked, Init, Run, texts_of, asked_by};
 ghost use Rattle.wse_words.specs.Read.{asked_of, HasPlainRoot};
 ghost use Rattle.wse_run.specs.Causes.{CountFaults};
+ghost use Rattle.wse_run.specs.Complete.{IsOpenable, IsCalm};
 ghost use Rattle.wse_run.specs.End.{ending_of};
 ghost use Rattle.wsedit.specs.Status.{code_of, IsStatus, ending_by};
 ghost use Rattle.wsedit.specs.Program.{Does, Ends};
@@ -146,6 +151,16 @@ pub fn run_within<S: Source, K: Sink, E: Sink, D: Place>(
         (faults (S.faults source.old) (K.faults out.old) (D.faults disk))
         (faults (S.faults source.new) (K.faults out.new) (D.faults result.disk)) }
     ensures statuses { IsStatus result.status }
+    ensures complete { (tree store : List ℕ) (root : Parts) (adopt : Bool) (max_input : ℕ)
+        → asked_by (texts_of words.now) ≡ Some (Run tree store root adopt max_input)
+        → (s : Standing) → D.told disk ≡ Some s → IsOpenable adopt limits s.reading
+        → IsCalm max_input (S.left source.old)
+        (faults (S.faults source.old) (K.faults out.old) (D.faults disk))
+        (faults (S.faults source.new) (K.faults out.new) (D.faults result.disk))
+        → (result.status ≡ 0) ⊎ (result.status ≡ 6) }
+    ensures makes { (tree store : List ℕ) → asked_by (texts_of words.now) ≡ Some (Init tree store)
+        → (s : Standing) → D.told disk ≡ Some s → start_hit limits s.reading.files ≡ None
+        → (Rose (D.faults disk) (D.faults result.disk) → ⊥) → (result.status ≡ 0) ⊎ (result.status ≡ 6) }
 {
     let Outcome { status, disk } = run_words(alloc, words, source, out, disk, limits);
     // A fault of errs changes no status.
@@ -177,6 +192,16 @@ pub fn run<S: Source, K: Sink, E: Sink, D: Place>(
         (faults (S.faults source.old) (K.faults out.old) (D.faults disk))
         (faults (S.faults source.new) (K.faults out.new) (D.faults result.disk)) }
     ensures statuses { IsStatus result.status }
+    ensures complete { (tree store : List ℕ) (root : Parts) (adopt : Bool) (max_input : ℕ)
+        → asked_by (texts_of words.now) ≡ Some (Run tree store root adopt max_input)
+        → (s : Standing) → D.told disk ≡ Some s → IsOpenable adopt standard s.reading
+        → IsCalm max_input (S.left source.old)
+        (faults (S.faults source.old) (K.faults out.old) (D.faults disk))
+        (faults (S.faults source.new) (K.faults out.new) (D.faults result.disk))
+        → (result.status ≡ 0) ⊎ (result.status ≡ 6) }
+    ensures makes { (tree store : List ℕ) → asked_by (texts_of words.now) ≡ Some (Init tree store)
+        → (s : Standing) → D.told disk ≡ Some s → start_hit standard s.reading.files ≡ None
+        → (Rose (D.faults disk) (D.faults result.disk) → ⊥) → (result.status ≡ 0) ⊎ (result.status ≡ 6) }
 {
     run_within(alloc, words, source, out, errs, disk, Limits::standard())
 }
