@@ -208,6 +208,9 @@ fn image_opens(
     at: (u64, u64),
     version: u32,
 ) -> Result<bool, Fail> {
+    if at.0 > disk.disk.moment() {
+        return Ok(false);
+    }
     let image = QuietDisk::new(disk.disk.image_at(at.0, at.1)?);
     match open(alloc, image, true, &Limits::standard())?.1 {
         Ended::Opened(found, _) => Ok(found == version),
