@@ -1,5 +1,5 @@
 -- What opening an engine leaves. This project's own rule.
-use Rattle.std.specs.Prelude.{◌≡◌, ⊤, ◌⊎◌, ℕ, Bool, Option, Result, Ok, Err}
+use Rattle.std.specs.Prelude.{◌≡◌, ◌≤◌, ◌⊎◌, ℕ, Bool, Option, Result, Ok, Err}
 use Rattle.wse_element.specs.State.{State}
 use Rattle.wse_disk.specs.Standing.{Standing}
 use Rattle.wse_disk.specs.Told.{MayLeave}
@@ -20,10 +20,10 @@ abbrev pub LeavesStart : {D : Type 0} → (adopt : Bool) → (D → Option Stand
 LeavesStart adopt told old s result =
     LeavesOnly (told old) (told (disk_started result)) (λ image. MayLeave (told old) image ⊎ StandsForOpened adopt s image)
 
--- Where the disk didn't fail its count of faults is as it was.
+-- The count of the disk's faults never falls, and where it didn't fail it is as it was.
 abbrev pub StartKeeps : {D : Type 0} → (D → ℕ) → D → Result (EngineNow D) (OpenFault D) → Type 0
 StartKeeps count old (Ok engine) = count engine.disk ≡ count old
-StartKeeps count old (Err (opens.Disk new)) = ⊤
+StartKeeps count old (Err (opens.Disk new)) = count old ≤ count new
 StartKeeps count old (Err (opens.NotAStore new at)) = count new ≡ count old
 StartKeeps count old (Err (opens.TooBig new which found)) = count new ≡ count old
 StartKeeps count old (Err (opens.Differs new p)) = count new ≡ count old

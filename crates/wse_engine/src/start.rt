@@ -7,7 +7,7 @@ ghost use Rattle.wse_element.specs.Linked.{IsStateLinked};
 ghost use Rattle.wse_disk.specs.Told.{WhereTold, reading_of};
 ghost use Rattle.wse_txn.specs.Outcomes.{TellsAsBefore};
 ghost use Rattle.wse_txn.specs.Stands.{StandsFor};
-ghost use Rattle.wse_recover.specs.Open.{IsOpened, RefusesOpen};
+ghost use Rattle.wse_recover.specs.Open.{IsOpened, AdoptsWithin, RefusesOpen};
 ghost use Rattle.wse_engine.specs.Engine.{IsEngine};
 ghost use Rattle.wse_engine.specs.Start.{disk_started, LeavesStart, StartKeeps};
 
@@ -32,6 +32,7 @@ impl<D: Disk> Engine<D> {
     ) -> Result<Engine<D>, OpenFault<D>>
         requires within { are_within limits standard ≡ true }
         ensures opened { IfOk result (λ engine. WhereTold (D.told disk) (λ t. IsOpened adopt engine.state t.reading)) }
+        ensures adopts { IfOk result (λ engine. WhereTold (D.told disk) (λ t. AdoptsWithin limits engine.state t.reading)) }
         ensures limits { IfOk result (λ engine. engine.limits ≡ limits) }
         ensures unlocked { IfOk result (λ engine. engine.state.locks ≡ []) }
         ensures linked { IfOk result (λ engine. IsStateLinked engine.state) }

@@ -14,7 +14,7 @@ use Rattle.wse_disk.proofs.Moments.{no_call, weaker}
 use Rattle.wse_io.specs.Stream.{Piece}
 use Rattle.wse_txn.specs.Stands.{StandsFor}
 use Rattle.wse_recover.specs.Adopting.{IsAdopted}
-use Rattle.wse_recover.specs.Open.{IsOpened, StandsForOpened}
+use Rattle.wse_recover.specs.Open.{IsOpened, StandsForOpened, AdoptsWithin}
 use Rattle.wse_stream.specs.Opened.{IsEarlier, AtStart, AsOpened, RunsFrom}
 use Rattle.wse_stream.specs.Rests.{StaysTold}
 use Rattle.wse_stream.specs.Runs.{Ending, Runs}
@@ -53,18 +53,18 @@ module _ (root : Parts) (limits : Limits) (max_input : ℕ) (left : Option (List
   -- lines were served behind an opening
   pub served : (adopt : Bool) (moment : ℕ) (told : Option Standing) (middle : DiskAt) (now : Scene) (first : State) (end : RunEnd)
       → CountsMoments told moment → moment ≤ middle.moment → WhereTold told (λ t. IsOpened adopt first t.reading) → Leaves adopt told middle.told → StaysTold told middle.told
-      → first.locks ≡ [] → IsStateLinked first → limit_hit limits first.files ≡ None
+      → first.locks ≡ [] → IsStateLinked first → limit_hit limits first.files ≡ None → WhereTold told (λ t. AdoptsWithin limits first t.reading)
       → Runs (machine_of root limits) first max_input (scene left pieces middle) now (ending_of end) → IsServedEnd max_input end
       → RunsStore root adopt limits max_input (scene left pieces (disk_told moment told)) now end
-  served adopt moment None middle now first end counts later opened during still unlocked linked fits runs is =
-      Served first first (record { is_first = λ t. absurd t; unlocked = unlocked; linked = linked; fits = fits })
+  served adopt moment None middle now first end counts later opened during still unlocked linked fits adopts runs is =
+      Served first first (record { is_first = λ t. absurd t; unlocked = unlocked; linked = linked; fits = fits; adopts = adopts })
       (runs_from (machine_of root limits) first first left pieces max_input (disk_told moment None) middle now (ending_of end) counts later tt (λ t. absurd t) still runs) is
-  served false moment (Some d) middle now first end counts later opened during still unlocked linked fits runs is =
-      Served first first (record { is_first = λ t. refl; unlocked = unlocked; linked = linked; fits = fits })
+  served false moment (Some d) middle now first end counts later opened during still unlocked linked fits adopts runs is =
+      Served first first (record { is_first = λ t. refl; unlocked = unlocked; linked = linked; fits = fits; adopts = adopts })
       (runs_from (machine_of root limits) first first left pieces max_input (disk_told moment (Some d)) middle now (ending_of end) counts later opened
       (λ t. weaker (Some d) middle.told _ _ (plain moment (Some d) first) (during first opened)) still runs) is
-  served true moment (Some d) middle now first end counts later opened during still unlocked linked fits runs is =
-      Served opened.0 first (record { is_first = λ t. opened.2; unlocked = unlocked; linked = linked; fits = fits })
+  served true moment (Some d) middle now first end counts later opened during still unlocked linked fits adopts runs is =
+      Served opened.0 first (record { is_first = λ t. opened.2; unlocked = unlocked; linked = linked; fits = fits; adopts = adopts })
       (runs_from (machine_of root limits) opened.0 first left pieces max_input (disk_told moment (Some d)) middle now (ending_of end) counts later opened.1
       (λ t. weaker (Some d) middle.told _ _ (λ image may. adopting moment (Some d) opened.0 first image opened.2 may) (during opened.0 opened.1)) still runs) is
 

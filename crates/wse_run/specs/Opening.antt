@@ -11,18 +11,21 @@ use Rattle.wse_stream.specs.Machine.{Machine}
 use Rattle.wse_stream.specs.Opened.{IsEarlier}
 use Rattle.wse_stream.specs.Scene.{Scene}
 use Rattle.wse_recover.specs.Adopting.{IsAdopted}
+use Rattle.wse_recover.specs.Open.{AdoptsWithin}
 
 -- The first line comes in the state for which the disk was opened, or with `adopt` in what adopting makes of that.
 abbrev pub IsFirst : (adopt : Bool) → (opened first : State) → Type 0
 IsFirst false opened first = first ≡ opened
 IsFirst true opened first = IsAdopted opened first
 
--- So it is, where the disk tells. Nobody holds a path then, the state is linked, and its tree passes no limit.
+-- So it is, where the disk tells. Nobody holds a path then, the state is linked, its tree passes no limit, and where adopting
+-- changed it it passes none of those on what is known and on serial numbers.
 pub record Begins (adopt : Bool) (limits : Limits) (told : Option Standing) (opened first : State) : Type 0 where
   pub is_first : IsTold told → IsFirst adopt opened first
   pub unlocked : first.locks ≡ []
   pub linked : IsStateLinked first
   pub fits : limit_hit limits first.files ≡ None
+  pub adopts : WhereTold told (λ s. AdoptsWithin limits first s.reading)
 
 -- Adopting is asked for, and makes the second state of the first.
 abbrev pub MayAdopt : (adopt : Bool) → State → State → Type 0

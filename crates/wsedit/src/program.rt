@@ -42,7 +42,7 @@ fn do_words<S: Source, K: Sink, D: Place>(
     disk: D,
     limits: Limits,
 ) -> RanStore<D>
-    requires plain { HasPlainRoot words.entry }
+    requires plain { HasPlainRoot words }
     requires within { are_within limits standard ≡ true }
     ensures does { Does limits
         (scene (S.left source.old) (K.pieces out.old) (disk_at D.moment_of D.told disk))

@@ -1,5 +1,5 @@
 use Rattle.std.proofs.Common.{◌≡◌, sym, ap, subst, ◌∙◌}
-use Rattle.wse_stream.specs.Runs.{Runs, HasCauses}
+use Rattle.wse_stream.specs.Runs.{Ending, Runs, HasCauses}
 use Rattle.wse_stream.specs.Scene.{disk_at, scene, faults}
 use Rattle.wse_server.specs.Serving.{ending_of as ending_of_serving}
 use Rattle.wse_recover.specs.Open.{disk_of_fault}
@@ -7,6 +7,7 @@ use Rattle.wse_engine.specs.Engine.{EngineNow}
 use Rattle.wse_run.specs.Causes.{CountFaults}
 use Rattle.wse_run.specs.End.{ending_of, end_of_served}
 use Rattle.wse_run.specs.Run.{machine_of, RunsStore}
+use Rattle.wse_run.specs.declared.end.RunEnd.{RunEnd}
 use Rattle.wse_run.proofs.CompleteLemmas.{complete}
 use Rattle.wse_run.proofs.OpeningLemmas.{served, unread, runs_of}
 use Rattle.wse_run.proofs.RefusalLemmas.{unopened_by, unopened_causes, ending_served, is_served, served_causes}
@@ -36,12 +37,15 @@ returns-clause-run g c =
     let engine = c.in-Ok.engine in
     let start = c.in-Ok.ensures in
     let end = c.serve-disk.result.end in
+    let left = g.S.Source.left c.args.source.now in
+    let pieces = g.K.Sink.pieces c.args.out.now in
+    let before = scene left pieces (disk_at moment_of told c.args.disk) in
     let now = scene (g.S.Source.left c.serve-disk.new.source) (g.K.Sink.pieces c.serve-disk.new.out) (disk_at moment_of told c.serve-disk.result.disk) in
-    subst (λ e. RunsStore run.root run.adopt run.limits run.max_input _ now e) (sym c.end_of_served.ensures)
-    (served run.root run.limits run.max_input _ _ run.adopt (moment_of c.args.disk) (told c.args.disk) (disk_at moment_of told engine.disk) now engine.state (end_of_served run.max_input end)
-    (g.met.D.Disk.counts_moments c.args.disk) start.later start.opened start.during start.tells.on start.unlocked start.linked start.fits
-    (subst (λ e. Runs (machine_of run.root run.limits) engine.state run.max_input _ now e) (ending_served run.max_input end)
-    (runs_of moment_of told _ _ run.max_input now (ending_of_serving end) run.root c.server_of-server.result.root engine c.server_of-server.result.engine run.limits c.server_of-server.ensures.root c.server_of-server.ensures.engine start.limits c.serve-disk.ensures.run))
+    subst (λ (e : RunEnd). RunsStore run.root run.adopt run.limits run.max_input before now e) {x = end_of_served run.max_input end} (sym {b = end_of_served run.max_input end} c.end_of_served.ensures)
+    (served run.root run.limits run.max_input left pieces run.adopt (moment_of c.args.disk) (told c.args.disk) (disk_at moment_of told engine.disk) now engine.state (end_of_served run.max_input end)
+    (g.met.D.Disk.counts_moments c.args.disk) start.later start.opened start.during start.tells.on start.unlocked start.linked start.fits start.adopts
+    (subst (λ (e : Ending). Runs (machine_of run.root run.limits) engine.state run.max_input (scene left pieces (disk_at moment_of told engine.disk)) now e) (ending_served run.max_input end)
+    (runs_of moment_of told left pieces run.max_input now (ending_of_serving end) run.root c.server_of-server.result.root engine c.server_of-server.result.engine run.limits c.server_of-server.ensures.root c.server_of-server.ensures.engine start.limits c.serve-disk.ensures.run))
     (is_served run.max_input end))
 
 pub returns-clause-causes : goal.returns-clause-causes
@@ -49,10 +53,13 @@ returns-clause-causes g c =
     let run = c.args.run in
     let end = c.serve-disk.result.end in
     let count = g.D.Disk.faults in
+    let source = g.S.Source.faults c.args.source.now in
+    let sink = g.K.Sink.faults c.args.out.now in
+    let before = faults source sink (count c.args.disk) in
     let now = faults (g.S.Source.faults c.serve-disk.new.source) (g.K.Sink.faults c.serve-disk.new.out) (count c.serve-disk.result.disk) in
-    subst (λ e. CountFaults (ending_of e) _ now) (sym c.end_of_served.ensures)
-    (served_causes run.max_input end _ now
-    (subst (λ n. HasCauses (ending_of_serving end) (faults (g.S.Source.faults c.args.source.now) (g.K.Sink.faults c.args.out.now) n) now)
+    subst (λ (e : RunEnd). CountFaults (ending_of e) before now) {x = end_of_served run.max_input end} (sym {b = end_of_served run.max_input end} c.end_of_served.ensures)
+    (served_causes run.max_input end before now
+    (subst (λ n. HasCauses (ending_of_serving end) (faults source sink n) now)
     (ap (λ (e : EngineNow g.row.D.Denot). count e.disk) c.server_of-server.ensures.engine ∙ c.in-Ok.ensures.kept) c.serve-disk.ensures.causes))
 
 -- nothing stood in the way
