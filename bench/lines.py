@@ -1,21 +1,25 @@
 #!/usr/bin/env python3
-"""Prints how long the built program takes for a line.
+"""Prints how long the built program takes for a line, over a new store in real folders.
 
 First over more and more creates in nested folders, which come in path order, and then in an order that scatters them. Then for
 one command over many files: a folder is renamed, renamed past as many other files, and deleted. Then for one edit of many text
-operations, over more and more files, and for one that renames as many files and edits each. `bin/wsedit`, run once before, builds
-the program."""
+operations, over more and more files, and for one that renames as many files and edits each. Last, how long a start takes over
+more and more files and records. LINES_DIR names the folder in which the stores are made, whose file system is what is measured:
+without it /dev/shm, so that no disk is waited for. `bin/wsedit`, run once before, builds the program."""
 
 import os
 import subprocess
+import tempfile
 import threading
 import time
 
 TOP = os.path.dirname(os.path.dirname(os.path.abspath(__file__)))
 PROGRAM = os.path.join(TOP, "crates", "wsedit", "out", "wsedit")
 COMMAND = [PROGRAM, "run", "t", "s", "file:///w"]
-COUNTS = (1_000, 8_000, 64_000)
+FOLDER = os.environ.get("LINES_DIR", "/dev/shm")
+COUNTS = (1_000, 8_000)
 FOLDERS = (1_000, 4_000, 16_000)
+STARTS = (1_000, 4_000, 16_000)
 OPERATIONS = (40, 400)
 
 
@@ -58,16 +62,32 @@ def delete(path):
     return edit(f'"kind":"delete","uri":"file:///w/{path}","options":{{"recursive":true}}')
 
 
-def seconds(lines):
-    """The least time of three runs over the lines."""
+def new_store():
+    """A folder that goes when it is left, with a new store `s` over an empty tree `t`."""
+    folder = tempfile.TemporaryDirectory(dir=FOLDER)
+    for name in "ts":
+        os.mkdir(os.path.join(folder.name, name))
+    subprocess.run([PROGRAM, "init", "t", "s"], cwd=folder.name, check=True)
+    return folder
+
+
+def run_lines(folder, lines):
+    """The time of one run over the lines."""
     text = "".join(lines).encode()
+    began = time.perf_counter()
+    done = subprocess.run(COMMAND, cwd=folder, input=text, stdout=subprocess.PIPE)
+    took = time.perf_counter() - began
+    answers = done.stdout.count(b'"applied":true')
+    assert done.returncode == 0 and answers == len(lines), (done.returncode, answers)
+    return took
+
+
+def seconds(lines):
+    """The least time of three runs over the lines, each over a new store."""
     best = None
     for _ in range(3):
-        began = time.perf_counter()
-        done = subprocess.run(COMMAND, input=text, stdout=subprocess.PIPE)
-        took = time.perf_counter() - began
-        answers = done.stdout.count(b'"applied":true')
-        assert done.returncode == 0 and answers == len(lines), (done.returncode, answers)
+        with new_store() as folder:
+            took = run_lines(folder, lines)
         best = took if best is None else min(best, took)
     return best
 
@@ -76,7 +96,8 @@ def answer_seconds(lines, last):
     """The least time, of three runs, from the last line to its answer, once the lines before it are answered."""
     best = None
     for _ in range(3):
-        run = subprocess.Popen(COMMAND, stdin=subprocess.PIPE, stdout=subprocess.PIPE)
+        store = new_store()
+        run = subprocess.Popen(COMMAND, cwd=store.name, stdin=subprocess.PIPE, stdout=subprocess.PIPE)
         writer = threading.Thread(target=lambda: (run.stdin.write("".join(lines).encode()), run.stdin.flush()))
         writer.start()
         for _ in lines:
@@ -89,6 +110,7 @@ def answer_seconds(lines, last):
         took = time.perf_counter() - began
         run.stdin.close()
         assert run.wait() == 0 and answer.startswith(b'{"applied":true'), answer[:200]
+        store.cleanup()
         best = took if best is None else min(best, took)
     return best
 
@@ -130,14 +152,25 @@ def edits():
         for operations in OPERATIONS:
             first = None
             for count in COUNTS:
-                # Creates in path order wait on the disk in memory. A lower path lets it make them, before the time is taken.
-                lines = [create(path) for path in paths(count)] + [edit(inserting(paths(count)[0]))]
+                lines = [create(path) for path in paths(count)]
                 took = answer_seconds(lines, edit(*change(scattered(paths(count))[1 : operations + 1])))
                 first = first or took
                 print(f"one edit of {operations} {name}: {count} files, {took * 1e3:.1f} milliseconds, {took / first:.2f} times")
+
+
+def starts():
+    """A start over a store with so many records, each of which made a file."""
+    first = None
+    for count in STARTS:
+        with new_store() as folder:
+            run_lines(folder, [create(path) for path in paths(count)])
+            each = min(run_lines(folder, []) for _ in range(3)) / count
+        first = first or each
+        print(f"start: {count} files and records, {each * 1e6:.1f} microseconds a record, {each / first:.2f} times")
 
 
 if __name__ == "__main__":
     creates()
     folders()
     edits()
+    starts()
