@@ -76,8 +76,7 @@ impl Held {
         let line = &self.bytes[self.start..self.start + end];
         match line.to_vec(self.alloc) {
             Ok(line) => {
-                self.start = (self.start + end + 1).min(self.bytes.len());
-                self.searched = self.start;
+                self.drop_line(end);
                 Ok(Items::new(line))
             }
             Err(_) => {
@@ -85,6 +84,15 @@ impl Held {
                 Err(Memory)
             }
         }
+    }
+
+    /// Lets go of the bytes before the place `end`, and of the byte at that place, where there is one. Takes no memory.
+    pub fn drop_line(&mut self, end: usize)
+        requires { end ≤ length self.old }
+        ensures { self.new ≡ drop (end + 1) self.old }
+    {
+        self.start = (self.start + end + 1).min(self.bytes.len());
+        self.searched = self.start;
     }
 
     /// Puts the bytes behind those that are held. After Memory nothing is held.

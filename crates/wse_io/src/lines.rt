@@ -3,7 +3,7 @@ ghost use Rattle.std.specs.Prelude.{◌≡◌, ◌≢◌, ◌⊎◌, ◌^◌, �
 ghost use Rattle.wse_path.specs.Causes.{Rose, HasCause};
 ghost use Rattle.wse_io.specs.Stream.{Takes, read_by};
 ghost use Rattle.wse_io.specs.Lines.{lines};
-ghost use Rattle.wse_io.specs.Reader.{Hands, HandsOut, Fills, AsksInNeed};
+ghost use Rattle.wse_io.specs.Reader.{Hands, HandsOut, Fills, AsksInNeed, without_held};
 
 use crate::held::Held;
 use crate::source::{ReadFailed, Source};
@@ -19,6 +19,8 @@ const CHUNK: usize = 65536;
 pub enum Line {
     /// A line, without its `\n`.
     Text(Bytes),
+    /// A line of so many bytes, without its `\n`. They are more than the most, and weren't kept.
+    TooLong { bytes: u64 },
     /// The source ended, and every line was handed out.
     End,
 }
@@ -46,9 +48,10 @@ pub enum Ahead {
 }
 
 /// Reads lines, which end at `\n`. At most one byte more than `max_input` is taken from the source. What was handed out is
-/// not kept.
+/// not kept, nor is a line of more than `max_line` bytes: at most `max_line + 1` bytes are held.
 #[derive(Drop)]
 pub struct Lines {
+    max_line: usize,
     max_input: u64,
     taken: u64,
     // What one read may fill. It is made before the first.
@@ -62,24 +65,25 @@ impl Model for Lines {
 
     ghost Value = { Reader };
 
-    ghost view = { λ a. record { max_input = a.max_input; taken = a.taken; held = a.held; ahead = a.ahead } };
+    ghost view = { λ a. record { max_line = a.max_line; max_input = a.max_input; taken = a.taken; held = a.held; ahead = a.ahead } };
 
-    ghost invariant = { λ a. IsReader (record { max_input = a.max_input; taken = a.taken; held = a.held; ahead = a.ahead }) };
+    ghost invariant = { λ a. IsReader (record { max_line = a.max_line; max_input = a.max_input; taken = a.taken; held = a.held; ahead = a.ahead }) };
 }
 
 impl Lines {
-    /// A reader that has taken nothing. Lines are handed out of `max_input` bytes at most, so none is longer than
-    /// `max_line` bytes.
+    /// A reader that has taken nothing. Lines are handed out of the first `max_input` bytes, and one of more than
+    /// `max_line` bytes is too long.
     pub fn new(alloc: Global, max_line: usize, max_input: u64) -> Lines
         requires some { 1 ≤ max_input }
         requires countable { max_input ≤ 2 ^ 62 }
-        requires line { max_input ≤ max_line }
+        ensures line { result.max_line ≡ max_line }
         ensures limit { result.max_input ≡ max_input }
         ensures taken { result.taken ≡ 0 }
         ensures held { result.held ≡ [] }
         ensures open { result.ahead ≡ Ahead.Open }
     {
         Lines {
+            max_line,
             max_input,
             taken: 0,
             chunk: Vec::new(alloc),
@@ -106,21 +110,44 @@ impl Lines {
         ensures cause { self.new.ahead ≡ Ahead.Failed LineFault.Read
             → (self.old.ahead ≡ Ahead.Failed LineFault.Read) ⊎ Rose (S.faults source.old) (S.faults source.new) }
     {
+        // How many bytes of the line were dropped.
+        let mut dropped = 0;
         loop {
             if let Some(end) = self.held.line_end() {
-                return self.hand_out(end);
+                return self.hand_out(dropped, end);
             }
             match self.ahead {
-                Ahead::Open => self.fill(source),
-                Ahead::Over => return self.last(),
+                Ahead::Open => {
+                    dropped = self.drop_long(dropped);
+                    self.fill(source);
+                }
+                Ahead::Over => return self.last(dropped),
                 Ahead::Failed(fault) => return Err(fault),
             }
         }
     }
 
-    // Takes what one read gives.
+    // Drops what is held of a line, of which so many bytes were dropped before, where it is too long already. Answers how many
+    // are dropped now.
+    fn drop_long(&mut self, dropped: u64) -> u64
+        requires counted { dropped + length self.old.held ≤ self.old.taken }
+        ensures short { dropped + length self.old.held ≤ self.old.max_line
+            → (result ≡ dropped) × (self.new ≡ self.old) }
+        ensures long { self.old.max_line < dropped + length self.old.held
+            → (result ≡ dropped + length self.old.held) × (self.new ≡ without_held self.old) }
+    {
+        let bytes = dropped + self.held.len() as u64;
+        if bytes <= self.max_line as u64 {
+            return dropped;
+        }
+        self.held.forget();
+        bytes
+    }
+
+    // Takes what one read gives, of which at most `max_line + 1` bytes are held then.
     fn fill<S: Source>(&mut self, source: &mut S)
-        requires { self.old.ahead ≡ Ahead.Open }
+        requires ahead { self.old.ahead ≡ Ahead.Open }
+        requires short { length self.old.held ≤ self.old.max_line }
         ensures fills { (read : List ℕ) × Fills (S.left source.old) (S.left source.new) self.old self.new read }
         ensures began { (source.new ≡ source.old) ⊎ (S.left_before source.new ≡ S.left source.old) }
         ensures later { S.faults source.old ≤ S.faults source.new }
@@ -133,7 +160,8 @@ impl Lines {
             self.ahead = Ahead::Failed(LineFault::Memory);
             return;
         }
-        match read_front(source, &mut self.chunk, self.max_input + 1 - self.taken) {
+        let room = self.room();
+        match read_front(source, &mut self.chunk, room) {
             Err(ReadFailed) => self.ahead = Ahead::Failed(LineFault::Read),
             Ok(0) => self.ahead = Ahead::Over,
             Ok(count) => {
@@ -148,11 +176,29 @@ impl Lines {
         }
     }
 
-    // The bytes before the place `end`, as a line.
-    fn hand_out(&mut self, end: usize) -> Result<Line, LineFault>
-        requires { end ≤ length self.old.held }
-        ensures { HandsOut (take end self.old.held) (drop (end + 1) self.old.held) self.old self.new result }
+    // How many bytes may be taken.
+    fn room(&self) -> u64
+        requires ahead { self.now.ahead ≡ Ahead.Open }
+        requires short { length self.now.held ≤ self.now.max_line }
+        ensures some { 0 < result }
+        ensures input { result + self.now.taken ≤ self.now.max_input + 1 }
+        ensures line { result + length self.now.held ≤ self.now.max_line + 1 }
     {
+        let line = (self.max_line - self.held.len()).saturating_add(1) as u64;
+        line.min(self.max_input + 1 - self.taken)
+    }
+
+    // The bytes before the place `end`, as a line, of which so many bytes before these were dropped.
+    fn hand_out(&mut self, dropped: u64, end: usize) -> Result<Line, LineFault>
+        requires end { end ≤ length self.old.held }
+        requires counted { dropped + length self.old.held ≤ self.old.taken }
+        ensures { HandsOut dropped (take end self.old.held) (drop (end + 1) self.old.held) self.old self.new result }
+    {
+        let bytes = dropped + end as u64;
+        if bytes > self.max_line as u64 {
+            self.held.drop_line(end);
+            return Ok(Line::TooLong { bytes });
+        }
         match self.held.take_line(end) {
             Ok(line) => Ok(Line::Text(line)),
             Err(Memory) => {
@@ -162,16 +208,17 @@ impl Lines {
         }
     }
 
-    // What is held at the end of the input, as the last line.
-    fn last(&mut self) -> Result<Line, LineFault>
-        ensures none { self.old.held ≡ [] → (result ≡ Ok Line.End) × (self.new ≡ self.old) }
-        ensures some { 0 < length self.old.held → HandsOut self.old.held [] self.old self.new result }
+    // What is held at the end of the input, as the last line, of which so many bytes before these were dropped.
+    fn last(&mut self, dropped: u64) -> Result<Line, LineFault>
+        requires counted { dropped + length self.old.held ≤ self.old.taken }
+        ensures none { dropped + length self.old.held ≡ 0 → (result ≡ Ok Line.End) × (self.new ≡ self.old) }
+        ensures some { 0 < dropped + length self.old.held → HandsOut dropped self.old.held [] self.old self.new result }
     {
         let len = self.held.len();
-        if len == 0 {
+        if dropped == 0 && len == 0 {
             return Ok(Line::End);
         }
-        self.hand_out(len)
+        self.hand_out(dropped, len)
     }
 }
 

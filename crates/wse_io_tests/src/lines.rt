@@ -24,7 +24,7 @@ pub fn gives<S: Source>(lines: &mut Lines, source: &mut S, want: &[&[u8]]) -> bo
 }
 
 // Whether the next two answers are the end.
-fn ends<S: Source>(lines: &mut Lines, source: &mut S) -> bool {
+pub fn ends<S: Source>(lines: &mut Lines, source: &mut S) -> bool {
     let first = lines.next(source);
     let second = lines.next(source);
     matches!(first, Ok(Line::End)) && matches!(second, Ok(Line::End))

@@ -163,6 +163,8 @@ pub fn serve<S: Source, K: Sink, D: Disk>(
     loop {
         let line = match lines.next(source) {
             Ok(Line::Text(line)) => line,
+            // No line has more bytes than the greatest number.
+            Ok(Line::TooLong { bytes: _ }) => unreachable!(),
             Ok(Line::End) => {
                 return Served {
                     disk: session.into_disk(),

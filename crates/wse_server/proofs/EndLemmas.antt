@@ -5,7 +5,7 @@ use Rattle.wse_io.specs.Lines.{lines}
 use Rattle.wse_io.specs.Reader.{Reader, Hands, Given, IsAfter, is_over}
 use Rattle.wse_io.specs.declared.lines.Ahead.TheVariants.{Open, Over, Failed}
 use Rattle.wse_io.specs.declared.lines.Line.{Line}
-use Rattle.wse_io.specs.declared.lines.Line.TheVariants.{Text, End}
+use Rattle.wse_io.specs.declared.lines.Line.TheVariants.{End}
 use Rattle.wse_io.specs.declared.lines.LineFault.{LineFault}
 use Rattle.wse_io.specs.declared.lines.LineFault.TheVariants as line_faults
 use Rattle.wse_io.proofs.StreamLemmas.{takes_more, adds_more}
@@ -22,7 +22,7 @@ use Rattle.wse_server.specs.declared.serving.ServeFault.TheVariants as one_fault
 use Rattle.wse_server.specs.declared.serving.ServeEnd.{ServeEnd}
 use Rattle.wse_server.specs.declared.serving.ServeEnd.TheVariants.{Done}
 use Rattle.wse_stream.proofs.RunLemmas.{ran_more}
-use Rattle.wse_stream.proofs.Reading.{Reads, got, over_is, nothing_got, still_over, lines_then, lines_now, counted, reads_more}
+use Rattle.wse_stream.proofs.Reading.{Reads, IsHanded, got, over_is, nothing_got, still_over, lines_then, lines_now, counted, reads_more}
 use Rattle.wse_stream.proofs.Answering.{Answers, ran_over, all_done}
 use Rattle.wse_server.proofs.Says.{Whole, whole_fault, whole_one, runs_by}
 
@@ -120,11 +120,12 @@ module _ {S : Type 0} (m : Machine S) (left_old left_now left_new : Option (List
       ] refl
 
   -- a line failed
-  pub one_ends : {D : Type 0} (pieces_new : Option (List Piece)) (line : List ℕ) (fault : ServeFault D) (there : DiskAt) (qs : List Piece) → Hands left_now left_new r r' read (Ok (Text line)) → Adds pieces_now pieces_new qs
+  pub one_ends : {D : Type 0} (pieces_new : Option (List Piece)) (handed : Line) (line : List ℕ) (fault : ServeFault D) (there : DiskAt) (qs : List Piece) → Hands left_now left_new r r' read (Ok handed)
+      → IsHanded handed line (r.held ++ got r read) r' → Adds pieces_now pieces_new qs
       → Ran m here there n u (line ∷ []) qs → now ≡ there → end ≡ end_of_one fault
       → Runs m s max_input (scene left_old pieces_old before) (scene left_new pieces_new now) (ending_of end)
-  one_ends pieces_new line fault there qs h adds ran same is_end =
-      let reads' = reads_more left_old left_now left_new r r' taken read done line reads h in
+  one_ends pieces_new handed line fault there qs h is adds ran same is_end =
+      let reads' = reads_more left_old left_now left_new r r' taken read done handed line reads h is in
       let all = lines_now left_old left_new r' (taken ++ read) (done ++ line ∷ []) reads' in
       let joined = ran_more m before here there 1 n s u done (line ∷ []) ps qs answers.still answers.ran answers.whole answers.number answers.state ran in
       let ran_now : Ran m before now 1 s (done ++ line ∷ []) (ps ++ qs) = subst (λ d. Ran m before d 1 s (done ++ line ∷ []) (ps ++ qs)) (sym same) joined in
@@ -134,5 +135,5 @@ module _ {S : Type 0} (m : Machine S) (left_old left_now left_new : Option (List
       reads'.takes (λ o. reads'.over (over_is r'.ahead o)) (adds_more _ _ _ ps qs answers.adds adds)
       (ran_over m before now s (done ++ line ∷ []) _ _ (ps ++ qs) ran_now all)
       (subst (λ e. Whole e r'.max_input (length (taken ++ read)) over (bytes_of (ps ++ qs) ≡ transcript m 1 s ls) (Rests now.told (m.stands (state_after m s ls)))) (sym is_end)
-      (whole_one fault r'.max_input _ _ _ _ (let w = h.within in let k = counted left_old left_now left_new r r' taken read done reads (Ok (Text line)) h in omega (arith, h.limit)))) in
+      (whole_one fault r'.max_input _ _ _ _ (let w = h.within in let k = counted left_old left_now left_new r r' taken read done reads (Ok handed) h in omega (arith, h.limit)))) in
       subst (λ l. Runs m s l (scene left_old pieces_old before) (scene left_new pieces_new now) (ending_of end)) (h.limit ∙ is_limit) runs

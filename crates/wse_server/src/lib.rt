@@ -1,6 +1,7 @@
 // Lines in, answers out: a server of lines over a disk, and what serving a stream with it promises.
 #![tactic(auto)]
 
+mod answering;
 mod server;
 mod serving;
 

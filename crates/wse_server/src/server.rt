@@ -1,11 +1,13 @@
 // What serving needs of that which answers the lines.
-ghost use Rattle.std.specs.Prelude.{◌≡◌, ◌⊎◌, ◌≤◌, IfOk};
+ghost use Rattle.std.specs.Prelude.{◌≡◌, ◌⊎◌, ℕ, ◌<◌, ◌≤◌, List, length, IfOk};
+ghost use Rattle.wse_stream.specs.Longest.{longest_line};
 ghost use Rattle.wse_stream.specs.Machine.{Machine};
 ghost use Rattle.wse_stream.specs.Rests.{Rests, Stretches, StaysTold};
 ghost use Rattle.wse_server.specs.Stopping.{disk_after, StepCause};
 
 use std::alloc::Global;
 use wse_disk::Disk;
+use wse_path::Memory;
 
 /// Why a line wasn't done. The disk is handed back.
 pub enum Stopped<D: Disk> {
@@ -47,6 +49,7 @@ pub trait Server<D: Disk> {
     /// Does what the line with the number `n` says, and gives the bytes of its answer. A crash at any moment leaves a disk that
     /// stands for the state before the line or for the one after it, where the disk fails too.
     fn line(self, alloc: Global, n: u64, line: &[u8]) -> Result<(Self, Vec<u8>), Stopped<D>>
+        requires { length line.now ≤ longest_line }
         ensures same { IfOk result (λ done. setting_of done.0 ≡ setting_of self) }
         ensures state { IfOk result (λ done. state_of done.0
             ≡ (machine (setting_of self)).after (state_of self) line.now) }
@@ -58,4 +61,14 @@ pub trait Server<D: Disk> {
         ensures told { IfOk result (λ done. StaysTold (D.told (disk_of self)) (D.told (disk_of done.0))) }
         ensures later { D.moment_of (disk_of self) ≤ D.moment_of (disk_after disk_of result) }
         ensures cause { StepCause D.faults disk_of self result };
+
+    /// The bytes of the answer to the line with the number `n` that is too long, of so many bytes.
+    fn too_long(&self, alloc: Global, n: u64, bytes: u64) -> Result<Vec<u8>, Memory>
+        requires { longest_line < bytes }
+        ensures { (line : List ℕ) → length line ≡ bytes → IfOk result (λ text.
+            text.items ≡ (machine (setting_of self.now)).answer n (state_of self.now) line) };
+
+    // A line that is too long changes nothing.
+    ghost keeps: { (setting : Setting) (s : State) (line : List ℕ) → longest_line < length line
+        → (machine setting).after s line ≡ s };
 }

@@ -1,6 +1,8 @@
 // Lines in, answers out.
-ghost use Rattle.std.specs.Prelude.{◌≡◌, ◌≤◌, ◌∷◌, ◌^◌, [], List, IfOk, OnOk};
+ghost use Rattle.std.specs.Prelude.{◌≡◌, ◌≤◌, ◌∷◌, ◌^◌, ℕ, [], List, IfOk, OnOk};
+ghost use Rattle.wse_io.specs.Reader.{Tells, IsFit};
 ghost use Rattle.wse_io.specs.Stream.{Piece, Adds, bytes_of};
+ghost use Rattle.wse_stream.specs.Longest.{longest_line};
 ghost use Rattle.wse_stream.specs.Machine.{transcript};
 ghost use Rattle.wse_stream.specs.Scene.{disk_at, scene, faults};
 ghost use Rattle.wse_stream.specs.Rests.{Rests, StaysTold};
@@ -9,10 +11,14 @@ ghost use Rattle.wse_stream.specs.Runs.{Runs, HasCauses};
 ghost use Rattle.wse_server.specs.Stopping.{stopped_disk};
 ghost use Rattle.wse_server.specs.Serving.{fault_disk, fault_of, one_disk, OneCause, ending_of, end_of_lines, end_of_one};
 
+use crate::answering::answer_line;
 use crate::server::{Server, Stopped};
 use std::alloc::Global;
 use wse_disk::Disk;
 use wse_io::{Line, LineFault, Lines, Sink, Source, WriteFailed, emit_all};
+
+/// The most bytes of a line that is kept. One of more is answered as too long. This project's own rule.
+const LONGEST_LINE: usize = 33_554_432;
 
 /// Why a line wasn't answered. The disk is handed back.
 pub enum ServeFault<D: Disk> {
@@ -57,7 +63,8 @@ fn into_fault<D: Disk>(stopped: Stopped<D>) -> ServeFault<D>
     }
 }
 
-/// Does what a line says, and emits its answer, the line being numbered `n`.
+/// Does what a line says, and emits its answer, the line being numbered `n`. Of a line that is too long only the number of its
+/// bytes is told, and what comes of it is the same for all lines of so many bytes.
 ///
 /// What is emitted is a front of the machine's answer, and after Ok the whole. A crash at any moment of the call leaves a
 /// disk that stands for the state before the line or for the one after it, and from the first piece of the answer on for
@@ -66,23 +73,25 @@ pub fn serve_one<D: Disk, R: Server<D>, K: Sink>(
     alloc: Global,
     server: R,
     n: u64,
-    line: &[u8],
+    line: &Line,
     out: &mut K,
 ) -> Result<R, ServeFault<D>>
-    ensures run { (added : List Piece) × Adds (K.pieces out.old) (K.pieces out.new) added
+    requires { IsFit longest_line line.now }
+    ensures run { (bytes : List ℕ) → Tells line.now bytes
+        → (added : List Piece) × Adds (K.pieces out.old) (K.pieces out.new) added
         × Ran (R.machine (R.setting_of server)) (disk_at D.moment_of D.told (R.disk_of server))
-        (disk_at D.moment_of D.told (one_disk R.disk_of result)) n (R.state_of server) (line.now ∷ []) added
+        (disk_at D.moment_of D.told (one_disk R.disk_of result)) n (R.state_of server) (bytes ∷ []) added
         × OnOk result (bytes_of added
-        ≡ transcript (R.machine (R.setting_of server)) n (R.state_of server) (line.now ∷ [])) }
+        ≡ transcript (R.machine (R.setting_of server)) n (R.state_of server) (bytes ∷ [])) }
     ensures same { IfOk result (λ next. R.setting_of next ≡ R.setting_of server) }
-    ensures next { IfOk result (λ next. R.state_of next
-        ≡ (R.machine (R.setting_of server)).after (R.state_of server) line.now) }
+    ensures next { (bytes : List ℕ) → Tells line.now bytes → IfOk result (λ next. R.state_of next
+        ≡ (R.machine (R.setting_of server)).after (R.state_of server) bytes) }
     ensures told { IfOk result (λ next. StaysTold (D.told (R.disk_of server)) (D.told (R.disk_of next))) }
     ensures rests { IfOk result (λ next. Rests (D.told (R.disk_of next))
         ((R.machine (R.setting_of next)).stands (R.state_of next))) }
     ensures cause { OneCause D.faults R.disk_of server (K.faults out.old) (K.faults out.new) result }
 {
-    let (server, text) = match server.line(alloc, n, line) {
+    let (server, text) = match answer_line(alloc, server, n, line) {
         Ok(done) => done,
         Err(stopped) => return Err(into_fault(stopped)),
     };
@@ -142,19 +151,19 @@ pub fn serve<D: Disk, R: Server<D>, S: Source, K: Sink>(
         (faults (S.faults source.old) (K.faults out.old) (D.faults (R.disk_of server)))
         (faults (S.faults source.new) (K.faults out.new) (D.faults result.disk)) }
 {
-    let mut lines = Lines::new(alloc, usize::MAX, max_input);
+    let mut lines = Lines::new(alloc, LONGEST_LINE, max_input);
     let _ = server.disk();
     let mut server = server;
     let mut n = 1;
     loop {
         let line = match lines.next(source) {
-            Ok(Line::Text(line)) => line,
             Ok(Line::End) => {
                 return Served {
                     disk: server.into_disk(),
                     end: ServeEnd::Done,
                 };
             }
+            Ok(line) => line,
             Err(fault) => {
                 return Served {
                     disk: server.into_disk(),
@@ -162,7 +171,7 @@ pub fn serve<D: Disk, R: Server<D>, S: Source, K: Sink>(
                 };
             }
         };
-        server = match serve_one(alloc, server, n, line.as_slice(), out) {
+        server = match serve_one(alloc, server, n, &line, out) {
             Ok(server) => server,
             Err(fault) => return fault.into_served(),
         };

@@ -1,5 +1,5 @@
 // A server that echoes each line behind the one before it.
-ghost use Rattle.std.specs.Prelude.{◌≡◌, ◌++◌, ◌∷◌, [], IfOk};
+ghost use Rattle.std.specs.Prelude.{◌≡◌, ◌++◌, ◌∷◌, [], codes, IfOk};
 
 use std::alloc::Global;
 use wse_path::Memory;
@@ -12,7 +12,9 @@ pub struct Echo {
 }
 
 impl Server<QuietDisk> for Echo {
-    ghost use Rattle.std.specs.Prelude.{List, ℕ};
+    ghost use Rattle.std.specs.Prelude.{List, ℕ, cond};
+    ghost use Rattle.std.proofs.Common.{ap};
+    ghost use Rattle.std.proofs.lemmas.Bool.{lt-ltb};
     ghost use Rattle.wse_server_tests.specs.Echo.{echo};
 
     ghost State = { List ℕ };
@@ -26,6 +28,8 @@ impl Server<QuietDisk> for Echo {
     ghost state_of = { λ server. server.last.items };
 
     ghost disk_of = { λ server. server.disk };
+
+    ghost keeps = { λ setting last line long. ap (λ is_long. cond is_long last line) (lt-ltb _ _ long) };
 
     fn disk(&self) -> &QuietDisk {
         &self.disk
@@ -47,6 +51,10 @@ impl Server<QuietDisk> for Echo {
             Ok((last, text)) => Ok((Echo { disk, last }, text)),
             Err(Memory) => Err(Stopped::Memory(disk)),
         }
+    }
+
+    fn too_long(&self, alloc: Global, _n: u64, _bytes: u64) -> Result<Vec<u8>, Memory> {
+        Ok(b"long\n".to_vec(alloc)?)
     }
 }
 

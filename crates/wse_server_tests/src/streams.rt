@@ -79,6 +79,29 @@ fn each_line_is_answered_in_the_state_behind_the_one_before(rt: HostRuntime) -> 
     Ok(())
 }
 
+// What is answered to a line of so many bytes and one of two behind it.
+fn behind_one_of(alloc: Global, count: usize) -> Result<MemSink, Fail> {
+    let mut input = vec![in alloc; b'x'; count]?;
+    input.extend_from_slice(b"\nab\n")?;
+    let mut source = MemSource::new(input, 65536, Vec::new(alloc));
+    let mut out = MemSink::new(alloc, 65536, Vec::new(alloc));
+    let _ = end_of(alloc, &mut source, &mut out, 100_000_000);
+    Ok(out)
+}
+
+// Lines of 33,554,432 bytes, the most, and of one more.
+fn too_long_changes_nothing(alloc: Global) -> Result<bool, Fail> {
+    let kept = behind_one_of(alloc, 33_554_432)?;
+    let dropped = behind_one_of(alloc, 33_554_433)?;
+    Ok(kept.bytes().len() == 67_108_868 && dropped.bytes() == b"long\nab\n".as_slice())
+}
+
+#[test]
+fn a_line_that_is_too_long_changes_nothing(rt: HostRuntime) -> Result<(), Fail> {
+    assert!(rt; too_long_changes_nothing(rt.alloc())?);
+    Ok(())
+}
+
 #[test]
 fn a_fault_ends_the_stream_behind_the_whole_answers(rt: HostRuntime) -> Result<(), Fail> {
     let alloc = rt.alloc();

@@ -109,6 +109,7 @@ fn done<D: Disk>(
 impl<D: Disk> Server<D> for StoreServer<D> {
     ghost use Rattle.wse_element.specs.State.{State};
     ghost use Rattle.wse_store.specs.Store.{Setting, serving};
+    ghost use Rattle.wse_store.proofs.StoreLemmas.{keeps_state};
 
     ghost State = { State };
 
@@ -121,6 +122,8 @@ impl<D: Disk> Server<D> for StoreServer<D> {
     ghost state_of = { λ server. server.engine.state };
 
     ghost disk_of = { λ server. server.engine.disk };
+
+    ghost keeps = { keeps_state };
 
     fn disk(&self) -> &D {
         self.engine.disk()
@@ -142,5 +145,8 @@ impl<D: Disk> Server<D> for StoreServer<D> {
             Ok(command) => done(alloc, engine, root, n, command),
             Err(why) => refused(alloc, engine, root, n, why),
         }
+    }
+    fn too_long(&self, alloc: Global, n: u64, bytes: u64) -> Result<Vec<u8>, Memory> {
+        Ok(reply_text(alloc, n, &Reply::TooLong { bytes })?.into_vec())
     }
 }

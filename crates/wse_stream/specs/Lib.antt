@@ -1,5 +1,6 @@
 pub mod Causes
 pub mod Emitted
+pub mod Longest
 pub mod Machine
 pub mod Opened
 pub mod Rests

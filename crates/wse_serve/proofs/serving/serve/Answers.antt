@@ -18,6 +18,7 @@ pub loop-line-init : goal.loop-line-init
 loop-line-init g c =
     let made = c.new-lines.ensures in
     record {
+      max_line = made.line;
       max_input = made.limit;
       within = omega (arith, made.taken);
       source = refl;
@@ -92,6 +93,7 @@ loop-line-preserved g c =
     let one = c.in-Ok.ensures.run in
     let at = disk_at g.D.Disk.moment_of g.D.Disk.told in
     record {
+      max_line = h.line ∙ inv.max_line;
       max_input = h.limit ∙ inv.max_input;
       within = omega (arith, h.within, inv.max_input);
       source = c.in-Ok-Text.ensures.kept (λ e. cc) ∙ inv.source;

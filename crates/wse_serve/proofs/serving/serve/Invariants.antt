@@ -13,6 +13,7 @@ use Rattle.wse_serve.proofs.serving.serve.Given as goal
 
 abbrev pub invariant-loop-line : goal.invariant-loop-line
 invariant-loop-line g l = record {
+  max_line : l.lines.max_line ≡ 18446744073709551615;
   max_input : l.lines.max_input ≡ l.setting.bounds.max_input;
   within : l.lines.taken ≤ l.setting.bounds.max_input + 1;
   source : g.S.Source.faults l.source ≡ g.S.Source.faults l.initial.source;

@@ -19,6 +19,7 @@ pub loop-line-init : goal.loop-line-init
 loop-line-init g c =
     let made = c.new-lines.ensures in
     record {
+      max_line = made.line;
       max_input = made.limit;
       within = omega (arith, made.taken);
       source = refl;
@@ -118,7 +119,8 @@ loop-line-preserved g c =
     let there = at (g.R.Server.disk_of c.in-Ok.server) in
     let same = c.in-Ok.ensures.same ∙ inv.same in
     record {
-      max_input = h.limit ∙ inv.max_input;
+      max_line = hands.1.line ∙ inv.max_line;
+      max_input = hands.1.limit ∙ inv.max_input;
       within = omega (arith, h.within, inv.max_input);
       source = c.in-Ok-Text.ensures.kept (λ e. cc) ∙ inv.source;
       fault = λ e. rose_either _ _ _ _ (omega (arith, inv.source)) c.in-Ok-Text.ensures.later inv.fault (c.in-Ok-Text.ensures.cause e);

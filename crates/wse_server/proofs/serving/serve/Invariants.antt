@@ -3,6 +3,7 @@ use Rattle.wse_path.specs.Causes.{Rose}
 use Rattle.wse_io.specs.Stream.{Piece}
 use Rattle.wse_io.specs.declared.lines.Ahead.TheVariants.{Failed}
 use Rattle.wse_io.specs.declared.lines.LineFault.TheVariants.{Read}
+use Rattle.wse_stream.specs.Longest.{longest_line}
 use Rattle.wse_stream.specs.Scene.{disk_at}
 use Rattle.wse_stream.proofs.Reading.{Reads}
 use Rattle.wse_stream.proofs.Answering.{Answers}
@@ -10,6 +11,7 @@ use Rattle.wse_server.proofs.serving.serve.Given as goal
 
 abbrev pub invariant-loop-line : goal.invariant-loop-line
 invariant-loop-line g l = record {
+  max_line : l.lines.max_line ≡ longest_line;
   max_input : l.lines.max_input ≡ l.max_input;
   within : l.lines.taken ≤ l.max_input + 1;
   source : g.S.Source.faults l.source ≡ g.S.Source.faults l.initial.source;

@@ -24,7 +24,7 @@ returns-in-Some-clause-hands g c =
     let inside = c.self.inside in
     let found = c.line_end.ensures in
     let so = c.loop-end.invariant.so_far in
-    let parts : Reader = record { max_input = inside.max_input; taken = inside.taken; held = inside.held; ahead = inside.ahead } in
+    let parts : Reader = record { max_line = inside.max_line; max_input = inside.max_input; taken = inside.taken; held = inside.held; ahead = inside.ahead } in
     let now = same_reader _ _ _ _ parts c.line_end.new.self so.0 c.self.view_is found.same c.self.invariant so.1 in
     let at = ends_at c.line_end.new.self c.in-Some.end (ap (position is_line_end) found.same ∙ sym found.place ∙ c.in-Some.is) in
     (so.0, hands_line _ _ _ _ so.0 now.0 now.1 c.hand_out.new.self c.in-Some.end c.hand_out.result at c.hand_out.ensures)
@@ -43,7 +43,7 @@ loop-end-preserved g c =
     let inv = c.loop-end.invariant in
     let so = inv.so_far in
     let fills = c.fill.ensures.fills in
-    let parts : Reader = record { max_input = inside.max_input; taken = inside.taken; held = inside.held; ahead = inside.ahead } in
+    let parts : Reader = record { max_line = inside.max_line; max_input = inside.max_input; taken = inside.taken; held = inside.held; ahead = inside.ahead } in
     let now = same_reader _ _ _ _ parts c.line_end.new.self so.0 c.self.view_is found.same c.self.invariant so.1 in
     let none = no_end_from c.line_end.new.self (ap (position is_line_end) found.same ∙ sym found.place ∙ c.in_default.is) in
     let need = needed _ _ _ _ so.0 now.0 now.1 c.in-Open.is none in
@@ -64,7 +64,7 @@ returns-in-Over-clause-hands g c =
     let inside = c.self.inside in
     let found = c.line_end.ensures in
     let so = c.loop-end.invariant.so_far in
-    let parts : Reader = record { max_input = inside.max_input; taken = inside.taken; held = inside.held; ahead = inside.ahead } in
+    let parts : Reader = record { max_line = inside.max_line; max_input = inside.max_input; taken = inside.taken; held = inside.held; ahead = inside.ahead } in
     let now = same_reader _ _ _ _ parts c.line_end.new.self so.0 c.self.view_is found.same c.self.invariant so.1 in
     let none = no_end_from c.line_end.new.self (ap (position is_line_end) found.same ∙ sym found.place ∙ c.in_default.is) in
     (so.0, hands_last _ _ _ _ so.0 now.0 now.1 c.last.new.self c.last.result c.in-Over.is none c.last.ensures.none c.last.ensures.some)
@@ -80,7 +80,7 @@ returns-in-Failed-clause-hands g c =
     let inside = c.self.inside in
     let found = c.line_end.ensures in
     let so = c.loop-end.invariant.so_far in
-    let parts : Reader = record { max_input = inside.max_input; taken = inside.taken; held = inside.held; ahead = inside.ahead } in
+    let parts : Reader = record { max_line = inside.max_line; max_input = inside.max_input; taken = inside.taken; held = inside.held; ahead = inside.ahead } in
     let now = same_reader _ _ _ _ parts c.line_end.new.self so.0 c.self.view_is found.same c.self.invariant so.1 in
     let none = no_end_from c.line_end.new.self (ap (position is_line_end) found.same ∙ sym found.place ∙ c.in_default.is) in
     (so.0, hands_fault _ _ _ _ so.0 now.0 now.1 c.in-Failed.fault c.in-Failed.is none)

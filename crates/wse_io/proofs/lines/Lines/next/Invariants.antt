@@ -1,4 +1,4 @@
-use Rattle.std.proofs.Common.{◌≡◌, ◌≢◌, ◌⊎◌, ◌≤◌, ℕ, List, [], false}
+use Rattle.std.proofs.Common.{◌≡◌, ◌≢◌, ◌⊎◌, ◌≤◌, ℕ, List, [], length, false}
 use Rattle.wse_path.specs.Causes.{Rose}
 use Rattle.wse_io.specs.Lines.{lines}
 use Rattle.wse_io.specs.Reader.{AsksInNeed}
@@ -9,7 +9,7 @@ use Rattle.wse_io.proofs.lines.Lines.next.Given as goal
 
 abbrev pub invariant-loop-end : goal.invariant-loop-end
 invariant-loop-end g l = record {
-  so_far : (read : List ℕ) × SoFar (g.S.Source.left l.initial.source) (g.S.Source.left l.source) l.initial.self l.self read;
+  so_far : (read : List ℕ) × (gone : List ℕ) × (l.dropped ≡ length gone) × SoFar (g.S.Source.left l.initial.source) (g.S.Source.left l.source) l.initial.self l.self read gone;
   ready : lines l.initial.self.held false ≢ [] → l.source ≡ l.initial.source;
   settled : l.initial.self.ahead ≢ Open → l.source ≡ l.initial.source;
   waits : (l.source ≡ l.initial.source) ⊎ AsksInNeed (g.S.Source.left l.initial.source) (g.S.Source.left_before l.source) l.initial.self;

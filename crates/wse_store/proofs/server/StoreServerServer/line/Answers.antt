@@ -1,22 +1,40 @@
-use Rattle.std.proofs.Common.{◌⊎◌, Result, sym, subst}
+use Rattle.std.proofs.Common.{◌⊎◌, ⊎_elim, Result, Ok, Err, sym, ap, subst, ◌∙◌}
+use Rattle.std.proofs.lemmas.Result.{IfOk-weaker}
 use Rattle.wse_disk.specs.LeavesOnly.{LeavesOnly}
 use Rattle.wse_disk.specs.Told.{IsTold}
-use Rattle.wse_path.specs.declared.command.Command.{Command}
-use Rattle.wse_json.specs.declared.shape.Shape.{Shape}
+use Rattle.wse_element.specs.State.{State}
 use Rattle.wse_txn.specs.Stands.{StandsFor}
+use Rattle.wse_engine.specs.Engine.{EngineNow}
 use Rattle.wse_engine.proofs.EngineLemmas.{stays_on}
+use Rattle.wse_reply.specs.Reply.{reply_text}
 use Rattle.wse_server.specs.Stopping.{disk_after}
-use Rattle.wse_store.specs.Store.{after_command, after_line}
+use Rattle.wse_store.specs.Store.{Setting, after_line}
 use Rattle.wse_store.specs.declared.store.StoreServer.{StoreServer}
+use Rattle.wse_store.proofs.StoreLemmas.{after_read, reply_read}
 use Rattle.wse_store.proofs.server.StoreServerServer.line.Goals as goal
+
+-- a command is done
+pub returns-in-Ok-clause-state : goal.returns-in-Ok-clause-state
+returns-in-Ok-clause-state g c =
+    let e = c.args.self.engine in
+    let setting : Setting = record { root = c.args.self.root; limits = e.limits } in
+    IfOk-weaker c.done.result _ _ (λ done is. is ∙ sym (after_read setting e.state c.args.line.now (Ok c.in-Ok.command) c.requires c.in-Ok.ensures.read)) c.done.ensures.state
+
+pub returns-in-Ok-clause-text : goal.returns-in-Ok-clause-text
+returns-in-Ok-clause-text g c =
+    let e = c.args.self.engine in
+    let setting : Setting = record { root = c.args.self.root; limits = e.limits } in
+    IfOk-weaker c.done.result _ _ (λ done is. is ∙ ap (reply_text c.args.n) (sym (reply_read setting e.state c.args.line.now (Ok c.in-Ok.command) c.requires c.in-Ok.ensures.read))) c.done.ensures.text
 
 pub returns-in-Ok-clause-images : goal.returns-in-Ok-clause-images
 returns-in-Ok-clause-images g c =
     let e = c.args.self.engine in
+    let setting : Setting = record { root = c.args.self.root; limits = e.limits } in
     let left = disk_after {R = StoreServer g.row.D.Denot g.D.Disk} (λ server. server.engine.disk) c.done.result in
-    subst (λ (r : Result Command Shape). IsTold (g.D.Disk.told e.disk) → LeavesOnly (g.D.Disk.told e.disk) (g.D.Disk.told left) (λ image. StandsFor e.state image ⊎ StandsFor (after_command e.limits e.state r) image))
-    (sym c.in-Ok.ensures.read) c.done.ensures.images
+    subst (λ (s : State). IsTold (g.D.Disk.told e.disk) → LeavesOnly (g.D.Disk.told e.disk) (g.D.Disk.told left) (λ image. StandsFor e.state image ⊎ StandsFor s image))
+    (sym (after_read setting e.state c.args.line.now (Ok c.in-Ok.command) c.requires c.in-Ok.ensures.read)) c.done.ensures.images
 
+-- a line is refused
 pub returns-in-Err-clause-images : goal.returns-in-Err-clause-images
 returns-in-Err-clause-images g c =
     let e = c.args.self.engine in
