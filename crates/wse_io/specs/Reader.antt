@@ -45,11 +45,9 @@ pub record IsReader (r : Reader) : Type 0 where
 -- One read: these bytes were taken, at least one where more is to be read, and joined what is held.
 pub record Fills (left_old left_new : Option (List ℕ)) (old new : Reader) (read : List ℕ) : Type 0 where
   pub takes : Takes left_old left_new read
-  pub line : new.max_line ≡ old.max_line
   pub limit : new.max_input ≡ old.max_input
   pub taken : new.taken ≡ old.taken + length read
   pub held : new.ahead ≢ Failed Memory → new.held ≡ old.held ++ take (old.max_input - old.taken) read
-  pub most : length new.held ≤ length old.held + length read
   pub some : new.ahead ≡ Open → 0 < length read
   pub ended : new.ahead ≡ Over → IfSome left_new (λ rest. rest ≡ [])
 
@@ -101,6 +99,8 @@ pub record Hands (left_old left_new : Option (List ℕ)) (old new : Reader) (rea
   pub taken : new.taken ≡ old.taken + length read
   pub within : new.taken ≤ old.max_input + 1
   pub after : IsAfter new.ahead old.max_input new.taken
+  -- Of a line that is too long no more than one byte too many is ever held.
+  pub most : length new.held ≤ old.max_line + 1
   -- Once the source ended or a fault is known, nothing is read, and that stays so but for want of memory.
   pub settled : old.ahead ≢ Open → (read ≡ []) × ((new.ahead ≡ old.ahead) ⊎ (result ≡ Err Memory))
   -- A line that is held whole is handed out before anything is read.

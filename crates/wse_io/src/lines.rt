@@ -149,6 +149,9 @@ impl Lines {
         requires ahead { self.old.ahead ≡ Ahead.Open }
         requires short { length self.old.held ≤ self.old.max_line }
         ensures fills { (read : List ℕ) × Fills (S.left source.old) (S.left source.new) self.old self.new read }
+        ensures line { self.new.max_line ≡ self.old.max_line }
+        // No more joined what is held than was taken.
+        ensures most { length self.new.held + self.old.taken ≤ length self.old.held + self.new.taken }
         ensures began { (source.new ≡ source.old) ⊎ (S.left_before source.new ≡ S.left source.old) }
         ensures later { S.faults source.old ≤ S.faults source.new }
         ensures kept { self.new.ahead ≢ Ahead.Failed LineFault.Read → S.faults source.new ≡ S.faults source.old }
@@ -194,8 +197,9 @@ impl Lines {
         requires counted { dropped + length self.old.held ≤ self.old.taken }
         ensures { HandsOut dropped (take end self.old.held) (drop (end + 1) self.old.held) self.old self.new result }
     {
+        let most = self.max_line as u64;
         let bytes = dropped + end as u64;
-        if bytes > self.max_line as u64 {
+        if bytes > most {
             self.held.drop_line(end);
             return Ok(Line::TooLong { bytes });
         }

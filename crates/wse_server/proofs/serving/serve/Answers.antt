@@ -1,6 +1,5 @@
-use Rattle.std.proofs.Common.{◌∷◌, ◌++◌, [], Ok, Err, refl, sym, ap, subst, ◌∙◌, arith}
-use Rattle.wse_io.specs.Reader.{Hands}
-use Rattle.wse_io.specs.declared.lines.Line.TheVariants.{Text}
+use Rattle.std.proofs.Common.{◌∷◌, ◌++◌, [], Err, refl, sym, ap, subst, ◌∙◌, arith}
+use Rattle.wse_io.specs.Reader.{IsFit}
 use Rattle.wse_io.specs.declared.lines.Ahead.TheVariants.{Failed}
 use Rattle.wse_stream.specs.Machine.{transcript}
 use Rattle.wse_stream.specs.Causes.{CountsFault}
@@ -9,7 +8,7 @@ use Rattle.wse_stream.specs.Run.{Ran}
 use Rattle.wse_stream.specs.Rests.{Rests}
 use Rattle.wse_stream.specs.Runs.{HasCauses}
 use Rattle.wse_stream.proofs.CauseLemmas.{rose_either}
-use Rattle.wse_stream.proofs.Reading.{reads_none, reads_more, reads_less}
+use Rattle.wse_stream.proofs.Reading.{handed_line, reads_none, reads_more, reads_less}
 use Rattle.wse_stream.proofs.Answering.{answers_none, answers_more}
 use Rattle.wse_server.specs.Serving.{ending_of, is_disk_fault, is_write_fault, end_of_one, fault_disk}
 use Rattle.wse_server.proofs.EndLemmas.{fault_ends, done_ends, one_ends, source_cause, lines_cause, one_cause, failed_ahead}
@@ -76,10 +75,11 @@ returns-in-Err-serve_one-clause-run g c =
     let inv = c.loop-line.invariant in
     let so = inv.so_far in
     let m = g.R.Server.machine (g.R.Server.setting_of c.args.server) in
-    let x = c.as_slice.result.now in
-    let hands = rw c.in-Ok-Text.field-0-is at c.in-Ok-Text.ensures.hands in
-    let h = subst (λ l. Hands (g.S.Source.left c.loop-line.source) (g.S.Source.left c.next.new.source) c.loop-line.lines c.next.new.self hands.0 (Ok (Text l))) (sym c.as_slice.ensures) hands.1 in
-    let one = c.in-Err-serve_one.ensures.run in
+    let hands = c.in-Ok.ensures.hands in
+    let h = hands.1 in
+    let given = handed_line c.in-Ok.line _ _ c.in-Ok.not-End h.given in
+    let x = given.0 in
+    let one = c.in-Err-serve_one.ensures.run x given.1.tells in
     let at = disk_at g.D.Disk.moment_of g.D.Disk.told in
     let u = g.R.Server.state_of c.loop-line.server in
     let here = at (g.R.Server.disk_of c.loop-line.server) in
@@ -87,7 +87,7 @@ returns-in-Err-serve_one-clause-run g c =
     let ran : Ran m here there c.loop-line.n u (x ∷ []) one.0 = subst (λ k. Ran (g.R.Server.machine k) here there c.loop-line.n u (x ∷ []) one.0) inv.same one.2 in
     one_ends m _ _ _ _ _ (at (g.R.Server.disk_of c.args.server)) here (at c.into_served.result.disk) c.into_served.result.end
     (g.R.Server.state_of c.args.server) u c.loop-line.n c.args.max_input c.loop-line.lines c.next.new.self so.0 hands.0 so.1 so.2 so.3 so.4 inv.max_input
-    _ x c.in-Err-serve_one.fault there one.0 h one.1 ran (ap at c.into_served.ensures.disk) c.into_served.ensures.end
+    _ c.in-Ok.line x c.in-Err-serve_one.fault there one.0 h given.1 one.1 ran (ap at c.into_served.ensures.disk) c.into_served.ensures.end
 
 pub returns-in-Err-serve_one-clause-causes : goal.returns-in-Err-serve_one-clause-causes
 returns-in-Err-serve_one-clause-causes g c =
@@ -98,7 +98,7 @@ returns-in-Err-serve_one-clause-causes g c =
     let now = λ (disk : g.row.D.Denot). faults (g.S.Source.faults c.next.new.source) (g.K.Sink.faults c.serve_one.new.out) (g.D.Disk.faults disk) in
     subst (λ e. HasCauses (ending_of e) before (now c.into_served.result.disk)) (sym c.into_served.ensures.end)
     (subst (λ d. HasCauses (ending_of (end_of_one fault)) before (now d)) (sym c.into_served.ensures.disk)
-    (one_cause (g.row.R.Denot) fault before (now (fault_disk fault)) (c.in-Ok-Text.ensures.kept (λ e. cc) ∙ inv.source)
+    (one_cause (g.row.R.Denot) fault before (now (fault_disk fault)) (c.in-Ok.ensures.kept (λ e. cc) ∙ inv.source)
     (subst (λ n. CountsFault (is_write_fault {D = g.row.D.Denot} {R = g.row.R.Denot} (Err fault)) n (g.K.Sink.faults c.serve_one.new.out)) inv.sink cause.sink)
     (subst (λ n. CountsFault (is_disk_fault {D = g.row.D.Denot} {R = g.row.R.Denot} (Err fault)) n (g.D.Disk.faults (fault_disk fault))) inv.disk cause.disk)))
 
@@ -107,42 +107,50 @@ loop-line-preserved g c =
     let inv = c.loop-line.invariant in
     let so = inv.so_far in
     let m = g.R.Server.machine (g.R.Server.setting_of c.args.server) in
-    let x = c.as_slice.result.now in
-    let hands = rw c.in-Ok-Text.field-0-is at c.in-Ok-Text.ensures.hands in
-    let h = subst (λ l. Hands (g.S.Source.left c.loop-line.source) (g.S.Source.left c.next.new.source) c.loop-line.lines c.next.new.self hands.0 (Ok (Text l))) (sym c.as_slice.ensures) hands.1 in
-    let one = c.in-Ok.ensures.run in
+    let hands = c.in-Ok.ensures.hands in
+    let h = hands.1 in
+    let given = handed_line c.in-Ok.line _ _ c.in-Ok.not-End h.given in
+    let x = given.0 in
+    let one = c.in-Ok-serve_one.ensures.run x given.1.tells in
     let at = disk_at g.D.Disk.moment_of g.D.Disk.told in
     let n = c.loop-line.n in
     let u = g.R.Server.state_of c.loop-line.server in
-    let v = g.R.Server.state_of c.in-Ok.server in
+    let v = g.R.Server.state_of c.in-Ok-serve_one.server in
     let here = at (g.R.Server.disk_of c.loop-line.server) in
-    let there = at (g.R.Server.disk_of c.in-Ok.server) in
-    let same = c.in-Ok.ensures.same ∙ inv.same in
+    let there = at (g.R.Server.disk_of c.in-Ok-serve_one.server) in
+    let same = c.in-Ok-serve_one.ensures.same ∙ inv.same in
     record {
       max_line = hands.1.line ∙ inv.max_line;
       max_input = hands.1.limit ∙ inv.max_input;
       within = omega (arith, h.within, inv.max_input);
-      source = c.in-Ok-Text.ensures.kept (λ e. cc) ∙ inv.source;
-      fault = λ e. rose_either _ _ _ _ (omega (arith, inv.source)) c.in-Ok-Text.ensures.later inv.fault (c.in-Ok-Text.ensures.cause e);
-      sink = c.in-Ok.ensures.cause.sink ∙ inv.sink;
-      disk = c.in-Ok.ensures.cause.disk ∙ inv.disk;
+      source = c.in-Ok.ensures.kept (λ e. cc) ∙ inv.source;
+      fault = λ e. rose_either _ _ _ _ (omega (arith, inv.source)) c.in-Ok.ensures.later inv.fault (c.in-Ok.ensures.cause e);
+      sink = c.in-Ok-serve_one.ensures.cause.sink ∙ inv.sink;
+      disk = c.in-Ok-serve_one.ensures.cause.disk ∙ inv.disk;
       same = same;
       so_far = (
         so.0 ++ hands.0,
         so.1 ++ x ∷ [],
         so.2 ++ one.0,
-        reads_more _ _ _ c.loop-line.lines c.next.new.self so.0 hands.0 so.1 x so.3 h,
+        reads_more _ _ _ c.loop-line.lines c.next.new.self so.0 hands.0 so.1 c.in-Ok.line x so.3 h given.1,
         answers_more m _ _ _ (at (g.R.Server.disk_of c.args.server)) here there
             (g.R.Server.state_of c.args.server) u v n so.1 x so.2 one.0 so.4 one.1
             (subst (λ k. Ran (g.R.Server.machine k) here there n u (x ∷ []) one.0) inv.same one.2)
             (one.3 ∙ ap (λ k. transcript (g.R.Server.machine k) n u (x ∷ [])) inv.same)
-            (c.in-Ok.ensures.next ∙ ap (λ k. (g.R.Server.machine k).after u x) inv.same)
-            (subst (λ k. Rests there.told ((g.R.Server.machine k).stands v)) same c.in-Ok.ensures.rests)
-            c.in-Ok.ensures.told,
+            (c.in-Ok-serve_one.ensures.next x given.1.tells ∙ ap (λ k. (g.R.Server.machine k).after u x) inv.same)
+            (subst (λ k. Rests there.told ((g.R.Server.machine k).stands v)) same c.in-Ok-serve_one.ensures.rests)
+            c.in-Ok-serve_one.ensures.told,
       );
     }
 
 pub loop-line-smaller : goal.loop-line-smaller
 loop-line-smaller g c =
-    let hands = rw c.in-Ok-Text.field-0-is at c.in-Ok-Text.ensures.hands in
-    reads_less _ _ c.loop-line.lines c.next.new.self c.args.max_input hands.0 _ c.loop-line.invariant.max_input hands.1
+    let hands = c.in-Ok.ensures.hands in
+    let given = handed_line c.in-Ok.line _ _ c.in-Ok.not-End hands.1.given in
+    reads_less _ _ c.loop-line.lines c.next.new.self c.args.max_input hands.0 given.0 c.in-Ok.line c.loop-line.invariant.max_input hands.1 given.1
+
+pub serve_one-requires : goal.serve_one-requires
+serve_one-requires g c =
+    let h = c.in-Ok.ensures.hands.1 in
+    let given = handed_line c.in-Ok.line _ _ c.in-Ok.not-End h.given in
+    subst (λ most. IsFit most c.in-Ok.line) (h.line ∙ c.loop-line.invariant.max_line) given.1.fit
