@@ -39,15 +39,15 @@ pub fn answer_line<D: Disk, R: Server<D>>(
     alloc: Global,
     server: R,
     n: u64,
-    line: &Line,
+    line: Line,
 ) -> Result<(R, Vec<u8>), Stopped<D>>
-    requires { IsFit longest_line line.now }
+    requires { IsFit longest_line line }
     ensures same { IfOk result (λ done. R.setting_of done.0 ≡ R.setting_of server) }
-    ensures state { (bytes : List ℕ) → Tells line.now bytes → IfOk result (λ done. R.state_of done.0
+    ensures state { (bytes : List ℕ) → Tells line bytes → IfOk result (λ done. R.state_of done.0
         ≡ (R.machine (R.setting_of server)).after (R.state_of server) bytes) }
-    ensures text { (bytes : List ℕ) → Tells line.now bytes → IfOk result (λ done. done.1.items
+    ensures text { (bytes : List ℕ) → Tells line bytes → IfOk result (λ done. done.1.items
         ≡ (R.machine (R.setting_of server)).answer n (R.state_of server) bytes) }
-    ensures images { (bytes : List ℕ) → Tells line.now bytes
+    ensures images { (bytes : List ℕ) → Tells line bytes
         → Stretches (D.told (R.disk_of server)) (D.told (disk_after R.disk_of result))
         (λ image. (R.machine (R.setting_of server)).stands (R.state_of server) image
         ⊎ (R.machine (R.setting_of server)).stands ((R.machine (R.setting_of server)).after (R.state_of server) bytes) image) }
@@ -57,7 +57,7 @@ pub fn answer_line<D: Disk, R: Server<D>>(
 {
     match line {
         Line::Text(text) => server.line(alloc, n, text.as_slice()),
-        Line::TooLong { bytes } => answer_too_long(alloc, server, n, *bytes),
+        Line::TooLong { bytes } => answer_too_long(alloc, server, n, bytes),
         Line::End => unreachable!(),
     }
 }

@@ -73,18 +73,18 @@ pub fn serve_one<D: Disk, R: Server<D>, K: Sink>(
     alloc: Global,
     server: R,
     n: u64,
-    line: &Line,
+    line: Line,
     out: &mut K,
 ) -> Result<R, ServeFault<D>>
-    requires { IsFit longest_line line.now }
-    ensures run { (bytes : List ℕ) → Tells line.now bytes
+    requires { IsFit longest_line line }
+    ensures run { (bytes : List ℕ) → Tells line bytes
         → (added : List Piece) × Adds (K.pieces out.old) (K.pieces out.new) added
         × Ran (R.machine (R.setting_of server)) (disk_at D.moment_of D.told (R.disk_of server))
         (disk_at D.moment_of D.told (one_disk R.disk_of result)) n (R.state_of server) (bytes ∷ []) added
         × OnOk result (bytes_of added
         ≡ transcript (R.machine (R.setting_of server)) n (R.state_of server) (bytes ∷ [])) }
     ensures same { IfOk result (λ next. R.setting_of next ≡ R.setting_of server) }
-    ensures next { (bytes : List ℕ) → Tells line.now bytes → IfOk result (λ next. R.state_of next
+    ensures next { (bytes : List ℕ) → Tells line bytes → IfOk result (λ next. R.state_of next
         ≡ (R.machine (R.setting_of server)).after (R.state_of server) bytes) }
     ensures told { IfOk result (λ next. StaysTold (D.told (R.disk_of server)) (D.told (R.disk_of next))) }
     ensures rests { IfOk result (λ next. Rests (D.told (R.disk_of next))
@@ -157,12 +157,6 @@ pub fn serve<D: Disk, R: Server<D>, S: Source, K: Sink>(
     let mut n = 1;
     loop {
         let line = match lines.next(source) {
-            Ok(Line::End) => {
-                return Served {
-                    disk: server.into_disk(),
-                    end: ServeEnd::Done,
-                };
-            }
             Ok(line) => line,
             Err(fault) => {
                 return Served {
@@ -171,7 +165,16 @@ pub fn serve<D: Disk, R: Server<D>, S: Source, K: Sink>(
                 };
             }
         };
-        server = match serve_one(alloc, server, n, &line, out) {
+        let line = match line {
+            Line::End => {
+                return Served {
+                    disk: server.into_disk(),
+                    end: ServeEnd::Done,
+                };
+            }
+            line => line,
+        };
+        server = match serve_one(alloc, server, n, line, out) {
             Ok(server) => server,
             Err(fault) => return fault.into_served(),
         };

@@ -9,8 +9,8 @@ use Rattle.wse_stream.proofs.Reading.{Reads}
 use Rattle.wse_stream.proofs.Answering.{Answers}
 use Rattle.wse_server.proofs.serving.serve.Given as goal
 
-abbrev pub invariant-loop-server : goal.invariant-loop-server
-invariant-loop-server g l = record {
+abbrev pub invariant-loop-line : goal.invariant-loop-line
+invariant-loop-line g l = record {
   max_line : l.lines.max_line ≡ longest_line;
   max_input : l.lines.max_input ≡ l.max_input;
   within : l.lines.taken ≤ l.max_input + 1;
@@ -26,5 +26,5 @@ invariant-loop-server g l = record {
       (g.R.Server.state_of l.initial.server) (g.R.Server.state_of l.server) l.n done added;
 }
 
-abbrev pub decreases-loop-server : goal.decreases-loop-server
-decreases-loop-server g l = (l.max_input + 1 - l.lines.taken) + length l.lines.held
+abbrev pub decreases-loop-line : goal.decreases-loop-line
+decreases-loop-line g l = (l.max_input + 1 - l.lines.taken) + length l.lines.held
