@@ -18,10 +18,7 @@ same_state {D} left engine s is same = ap (λ (e : EngineNow D). e.state) same �
 pub same_text : (text : List ℕ) (n : ℕ) (answer told : Answer) → answer ≡ told → text ≡ reply_text n (replies.Answer answer) → text ≡ reply_text n (replies.Answer told)
 same_text text n answer told is same = same ∙ ap (λ a. reply_text n (replies.Answer a)) is
 
--- A line that is too long changes nothing, and is answered by the number of its bytes.
-pub keeps_state : (setting : Setting) (s : State) (line : List ℕ) → longest_line < length line → after_line setting s line ≡ s
-keeps_state setting s line long = ap (λ b. cond b s (after_command setting.limits s (command_in setting.root line))) (lt-ltb longest_line (length line) long)
-
+-- A line that is too long is answered by the number of its bytes.
 pub reply_too_long : (setting : Setting) (s : State) (line : List ℕ) (bytes : ℕ) → longest_line < bytes → length line ≡ bytes → reply setting s line ≡ replies.TooLong bytes
 reply_too_long setting s line bytes long is =
     ap (λ b. cond b (replies.TooLong (length line)) (reply_to setting.limits s (command_in setting.root line))) (lt-ltb longest_line (length line) (rw is long)) ∙ ap replies.TooLong is

@@ -107,9 +107,13 @@ fn done<D: Disk>(
 }
 
 impl<D: Disk> Server<D> for StoreServer<D> {
+    ghost use Rattle.std.specs.Prelude.{length, cond};
+    ghost use Rattle.std.proofs.Common.{ap};
+    ghost use Rattle.std.proofs.lemmas.Bool.{lt-ltb};
     ghost use Rattle.wse_element.specs.State.{State};
-    ghost use Rattle.wse_store.specs.Store.{Setting, serving};
-    ghost use Rattle.wse_store.proofs.StoreLemmas.{keeps_state};
+    ghost use Rattle.wse_json.specs.Commands.{command_in};
+    ghost use Rattle.wse_stream.specs.Longest.{longest_line};
+    ghost use Rattle.wse_store.specs.Store.{Setting, serving, after_command};
 
     ghost State = { State };
 
@@ -123,7 +127,9 @@ impl<D: Disk> Server<D> for StoreServer<D> {
 
     ghost disk_of = { λ server. server.engine.disk };
 
-    ghost keeps = { keeps_state };
+    ghost keeps = { λ setting s line long.
+        ap (λ too_long. cond too_long s (after_command setting.limits s (command_in setting.root line)))
+        (lt-ltb longest_line (length line) long) };
 
     fn disk(&self) -> &D {
         self.engine.disk()
@@ -146,6 +152,7 @@ impl<D: Disk> Server<D> for StoreServer<D> {
             Err(why) => refused(alloc, engine, root, n, why),
         }
     }
+
     fn too_long(&self, alloc: Global, n: u64, bytes: u64) -> Result<Vec<u8>, Memory> {
         Ok(reply_text(alloc, n, &Reply::TooLong { bytes })?.into_vec())
     }
