@@ -1,12 +1,11 @@
-use Rattle.std.proofs.Common.{◌⊎◌, ⊎_elim, Result, Ok, Err, sym, ap, subst, ◌∙◌}
-use Rattle.std.proofs.lemmas.Result.{IfOk-weaker}
+use Rattle.std.proofs.Common.{◌≡◌, ◌⊎◌, IfOk, Ok, sym, subst}
 use Rattle.wse_disk.specs.LeavesOnly.{LeavesOnly}
 use Rattle.wse_disk.specs.Told.{IsTold}
 use Rattle.wse_element.specs.State.{State}
 use Rattle.wse_txn.specs.Stands.{StandsFor}
-use Rattle.wse_engine.specs.Engine.{EngineNow}
 use Rattle.wse_engine.proofs.EngineLemmas.{stays_on}
 use Rattle.wse_reply.specs.Reply.{reply_text}
+use Rattle.wse_reply.specs.declared.reply.Reply.{Reply}
 use Rattle.wse_server.specs.Stopping.{disk_after}
 use Rattle.wse_store.specs.Store.{Setting, after_line}
 use Rattle.wse_store.specs.declared.store.StoreServer.{StoreServer}
@@ -18,13 +17,13 @@ pub returns-in-Ok-clause-state : goal.returns-in-Ok-clause-state
 returns-in-Ok-clause-state g c =
     let e = c.args.self.engine in
     let setting : Setting = record { root = c.args.self.root; limits = e.limits } in
-    IfOk-weaker c.done.result _ _ (λ done is. is ∙ sym (after_read setting e.state c.args.line.now (Ok c.in-Ok.command) c.requires c.in-Ok.ensures.read)) c.done.ensures.state
+    subst (λ (s : State). IfOk c.done.result (λ done. done.0.engine.state ≡ s)) (sym (after_read setting e.state c.args.line.now (Ok c.in-Ok.command) c.requires c.in-Ok.ensures.read)) c.done.ensures.state
 
 pub returns-in-Ok-clause-text : goal.returns-in-Ok-clause-text
 returns-in-Ok-clause-text g c =
     let e = c.args.self.engine in
     let setting : Setting = record { root = c.args.self.root; limits = e.limits } in
-    IfOk-weaker c.done.result _ _ (λ done is. is ∙ ap (reply_text c.args.n) (sym (reply_read setting e.state c.args.line.now (Ok c.in-Ok.command) c.requires c.in-Ok.ensures.read))) c.done.ensures.text
+    subst (λ (r : Reply). IfOk c.done.result (λ done. done.1.items ≡ reply_text c.args.n r)) (sym (reply_read setting e.state c.args.line.now (Ok c.in-Ok.command) c.requires c.in-Ok.ensures.read)) c.done.ensures.text
 
 pub returns-in-Ok-clause-images : goal.returns-in-Ok-clause-images
 returns-in-Ok-clause-images g c =
