@@ -45,12 +45,14 @@ impl<D: Disk> Engine<D> {
         ensures kept { StartKeeps D.faults disk result }
     {
         match open_store(alloc, disk, adopt, &limits) {
-            Ok(Opened {
-                idle,
-                stacks,
-                versions,
-                tree,
-            }) => {
+            Ok(
+                Opened {
+                    idle,
+                    stacks,
+                    versions,
+                    tree,
+                },
+            ) => {
                 let history = History::new(alloc, stacks, versions, tree, limits);
                 Ok(Engine::of(idle, history))
             }

@@ -15,15 +15,20 @@ use Rattle.wse_recover.specs.Measure.{TellsHit}
 use Rattle.wse_recover.specs.Start.{start_hit}
 use Rattle.wse_recover.specs.Untouched.{IsUntouched}
 use Rattle.wse_words.specs.Words.{Asked, Init, Run}
+use Rattle.wse_words.specs.Read.{asked_of}
+use Rattle.wse_words.specs.declared.words.Words.{Words as ReadWords}
+use Rattle.wse_words.specs.declared.words.Words.TheVariants as words
+use Rattle.wse_words.specs.declared.words.Places.{Places}
+use Rattle.wse_words.specs.declared.options.Options.{Options}
 use Rattle.wse_run.specs.Causes.{RoseWhere, CountFaults}
 use Rattle.wse_run.specs.Complete.{IsOpenable, IsCalm}
 use Rattle.wse_run.specs.End.{ending_of}
-use Rattle.wse_run.specs.Run.{Failed}
+use Rattle.wse_run.specs.Run.{RunsStore, Failed}
 use Rattle.wse_run.specs.declared.end.RunEnd.{RunEnd}
 use Rattle.wse_run.specs.declared.end.RunEnd.TheVariants.{Done, Read, Write, Disk, Memory, NotAStore, TooBig, InputLimit, Differs}
 use Rattle.wse_run.proofs.CompleteLemmas.{complete}
 use Rattle.wse_run.proofs.OpeningLemmas.{untouched}
-use Rattle.wsedit.specs.Making.{HasMadeOr}
+use Rattle.wsedit.specs.Making.{HasMadeOr, MakesStore}
 use Rattle.wsedit.specs.Program.{Does}
 use Rattle.wsedit.specs.Status.{code_of, code_of_end, ending_by}
 use Rattle.wsedit.specs.declared.status.Status.{Status}
@@ -60,6 +65,14 @@ made_causes limits old new (NotAStore at) source sink before now made rose = abs
 made_causes limits old new (TooBig hit) source sink before now made rose = record { source = refl; sink = refl; disk = rose }
 made_causes limits old new (InputLimit limit) source sink before now made rose = absurd made
 made_causes limits old new (Differs p) source sink before now made rose = absurd made
+
+-- what the words ask for, by what was read of them
+pub makes_words : (limits : Limits) (before now : Scene) (given : ReadWords) (places : Places) (end : RunEnd) → given ≡ words.Init places → MakesStore limits before now end → Does limits before now (asked_of given) (Ran end)
+makes_words limits before now given places end is made = subst (λ (w : ReadWords). Does limits before now (asked_of w) (Ran end)) (sym is) made
+
+pub runs_words : (limits : Limits) (before now : Scene) (given : ReadWords) (places : Places) (root : Parts) (o : Options) (end : RunEnd) → given ≡ words.Run places root o → RunsStore root o.adopt limits o.max_input before now end
+    → Does limits before now (asked_of given) (Ran end)
+runs_words limits before now given places root o end is runs = subst (λ (w : ReadWords). Does limits before now (asked_of w) (Ran end)) (sym is) runs
 
 asked_is : (a b : Asked) → ◌≡◌ {A = Option Asked} (Some a) (Some b) → a ≡ b
 asked_is a b e = cc

@@ -1,5 +1,5 @@
 -- The text of a path, segment by segment.
-use Rattle.std.proofs.Common.{◌≡◌, ℕ, ◌+◌, ◌-◌, ◌<◌, List, [], ◌∷◌, ◌++◌, take, drop, get_or, length, refl, sym, ap, arith, ◌∙◌, String, string_bytes}
+use Rattle.std.proofs.Common.{◌≡◌, ℕ, ◌+◌, ◌-◌, ◌<◌, ◌≤◌, List, [], ◌∷◌, ◌++◌, take, drop, get_or, length, refl, sym, ap, arith, ◌∙◌, String, string_bytes}
 use Rattle.std.proofs.lemmas.List.{append-nil, at_drop_more, drop_all, take_all}
 use Rattle.wse_path.specs.Path.{text_of, bytes_of}
 
@@ -12,9 +12,9 @@ pub behind_more : {A : Type 0} (segments : List (String A)) (i : ℕ) (d : Strin
 unfolding behind
 behind_more segments i d l = at_drop_more behind segments i d l
 
-pub behind_all : {A : Type 0} (segments : List (String A)) → behind (drop (length segments) segments) ≡ []
+pub behind_all : {A : Type 0} (segments : List (String A)) (i : ℕ) → length segments ≤ i → behind (drop i segments) ≡ []
 unfolding behind
-behind_all segments = ap behind (drop_all (length segments) segments (omega arith))
+behind_all segments i l = ap behind (drop_all i segments l)
 
 pub text_is : {A : Type 0} (first : String A) (rest : List (String A)) → text_of (bytes_of (first ∷ rest)) ≡ string_bytes first ++ behind rest
 unfolding behind
