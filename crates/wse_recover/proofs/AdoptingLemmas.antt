@@ -297,7 +297,7 @@ apply_adopting serial h versions before (p ∷ ps) small room bounded distinct r
         bounded_from (after first (Bump p 1)) room_then,
         and_from (may_bump versions (Bump p 1) && are_versions_bounded serial new) (is_known_bounded new) (and_from (may_bump versions (Bump p 1)) (are_versions_bounded serial new) small_new bounded_new) known_new,
         apply_adopting serial (after first (Bump p 1)) new ((before ++ Invalidate p ∷ []) ++ Bump p 1 ∷ []) ps small room_then bounded_new d.1 (rise_elsewhere most versions p ps apart r.1) end
-        (valid_elsewhere h.records p ps apart v.1),
+            (valid_elsewhere h.records p ps apart v.1),
       ),
     )
 

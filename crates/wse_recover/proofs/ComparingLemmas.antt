@@ -158,8 +158,11 @@ opened_alike true s t image same stands = ⊎_elim
     (λ after.
     let paths = after.1.0 in
     let is : after.0 ≡ adopted_at paths s = after.1.2 in
-    inr (adopted_at paths t, (paths, differing_alike s t paths same after.1.1, refl),
-    stands_alike (adopted_at paths s) (adopted_at paths t) image (adopted_alike s t paths same) (subst (λ (x : State). StandsFor x image) is after.2)))
+    inr (
+      adopted_at paths t,
+      (paths, differing_alike s t paths same after.1.1, refl),
+      stands_alike (adopted_at paths s) (adopted_at paths t) image (adopted_alike s t paths same) (subst (λ (x : State). StandsFor x image) is after.2),
+    ))
     stands
 
 -- A crash leaves what a crash at the start might have left, or what stands for the state, or for what adopting makes of it.
@@ -192,8 +195,6 @@ module _ (adopt : Bool) (start mid : Option Standing) (one : State) (stood : Whe
       from None (Some u) tells at stood = absurd (tells.back tt)
       from (Some t) None tells at stood = absurd (tells.on tt)
       from (Some t) (Some u) tells at stood = λ s stands. stands_alike one s u.reading (stands_for_one.one one s t.reading stood stands) (at tt).stands
-
-
 
 module _ (adopt : Bool) (limits : Limits) (start : Option Standing) (s : State) where
   pub is_opened : (t : State) → WhereTold start (λ d. StandsFor s d.reading) → IsComparedAs adopt s t → WhereTold start (λ d. IsOpened adopt t d.reading)
@@ -236,14 +237,14 @@ module _ {D : Type 0} (told : D → Option Standing) (faults : D → ℕ) (adopt
   refuses_open (Err (opens.TooBig new which found)) why counts =
       let hit : Hit = record { which = which; would_be = found } in (
         where_pair (told disk) (opened_state o) (λ image. IsTooBig limits hit image ⊎ ((adopt ≡ true) × AdoptsTooMuch limits hit image))
-        (λ image stands. inr (why.0, (opened_state o, stands, starts, why.1))) stood,
+            (λ image stands. inr (why.0, (opened_state o, stands, starts, why.1))) stood,
         stayed_to new why.2,
       )
   refuses_open (Err (opens.Differs new p)) why counts = inr (
-        why.0,
-        where_pair (told disk) (opened_state o) (DiffersFirstAt p) (λ image stands. (opened_state o, stands, why.1)) stood,
-        stayed_to new why.2,
-      )
+    why.0,
+    where_pair (told disk) (opened_state o) (DiffersFirstAt p) (λ image stands. (opened_state o, stands, why.1)) stood,
+    stayed_to new why.2,
+  )
   refuses_open (Err (opens.Memory new)) why counts = tt
 
 pub nothing_written : (old new : Option Standing) (area : Area) (gate : ℕ) (s t : State) → IsAtRest old → new ≡ old → IsAt s area gate old → LeavesOnly old new (StandsForOneOf s t)
