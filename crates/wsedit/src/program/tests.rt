@@ -1,6 +1,7 @@
 // The statuses of runs and their lines at errs, over objects in memory; and where the disk is placed.
 use super::*;
 use std::test::Fail;
+use wse_apply::are_within_standard;
 use wse_disk::{Area, Disk, Failed, MemDisk, ReadErr};
 use wse_io::{MemSink, MemSource};
 use wse_path::{Bytes, RelPath, Tree};
@@ -98,17 +99,6 @@ fn source_of(alloc: Global, input: &str, fails: u64) -> Result<MemSource, Fail> 
     Ok(MemSource::new(bytes, 65_536, [fails].to_vec(alloc)?))
 }
 
-/// No limit is above that of the program.
-fn within_standard(limits: Limits) -> Limits
-    ensures { are_within result standard ≡ true }
-{
-    let most = Limits::standard();
-    Limits {
-        files: limits.files.min(most.files),
-        ..most
-    }
-}
-
 /// The disk after the run of the case over it, if it ended so.
 fn ended<D: Place + Drop>(
     alloc: Global,
@@ -121,7 +111,9 @@ fn ended<D: Place + Drop>(
     let mut source = source_of(alloc, input, case.source_fails)?;
     let mut out = sink_of(alloc, case.out_fails)?;
     let mut errs = sink_of(alloc, case.errs_fails)?;
-    let limits = within_standard(case.limits);
+    if !are_within_standard(&case.limits) {
+        return Err(Fail::new("limits above the program's"));
+    }
     let Ended { status, disk } = run_within(
         alloc,
         &words,
@@ -129,7 +121,7 @@ fn ended<D: Place + Drop>(
         &mut out,
         &mut errs,
         disk,
-        limits,
+        case.limits,
     );
     if status != end.status {
         return Err(Fail::new("another status"));
