@@ -42,8 +42,9 @@ class Run:
     def print_changes(self, answer):
         for path, version in answer.get("changed", {}).items():
             text = self.ask("look", uri=self.uri(path))["text"]
-            print(f"{path} has version {version}:" if text is not None else f"{path} is gone, at version {version}")
-            print("".join(f"    {line}\n" for line in (text or "").splitlines()), end="")
+            print(f"{path} is gone, at version {version}" if text is None else f"{path} has version {version}:")
+            for line in (text or "").splitlines():
+                print(f"    {line}".rstrip())
 
 
 def main(tree, store, root, edit):
