@@ -41,10 +41,14 @@ class Run:
 
     def print_changes(self, answer):
         for path, version in answer.get("changed", {}).items():
-            text = self.ask("look", uri=self.uri(path))["text"]
-            print(f"{path} is gone, at version {version}" if text is None else f"{path} has version {version}:")
-            for line in (text or "").splitlines():
+            now = self.ask("look", uri=self.uri(path))
+            print(f"{path} is gone, at version {version}" if now["bytes"] is None else f"{path} has version {version}:")
+            for line in (now["text"] or "").splitlines():
                 print(f"    {line}".rstrip())
+
+    def end(self):
+        self.process.stdin.close()
+        return self.process.wait()
 
 
 def main(tree, store, root, edit):
@@ -57,7 +61,8 @@ def main(tree, store, root, edit):
         undone = run.ask("undo", uri=run.uri(next(iter(answer["changed"]))))
         print(f"undo: {undone['result']}")
         run.print_changes(undone)
+    return run.end()
 
 
 if __name__ == "__main__":
-    main(*sys.argv[1:5])
+    sys.exit(main(*sys.argv[1:]) if len(sys.argv) == 5 else __doc__)
