@@ -1,11 +1,11 @@
 #!/usr/bin/env python3
 """Prints how long an edit takes that moves a folder of files and edits each, beside other ways to make the same change.
 
-Side by side, each time over new folders of the same file system: `wsedit`, from the line to its answer in a run that was started
-before; `bench/flushes.c`, which writes the same files and flushes each, without and with the flushes of a journal and of folders;
-`git apply` of the same change; and an SQLite transaction that changes as many rows, since a row is what SQLite has in place of a
-file. Printed are the medians of the rounds, the flushes that the system saw in one more round where strace is there, and how loaded
-the machine was. `git apply` flushes nothing.
+Side by side, each time over new folders of the same file system, in rounds that each begin with another of them: `wsedit`, from the
+line to its answer in a run that was started before; `bench/flushes.c`, which writes the same files and flushes each, without and with
+the flushes of a journal and of folders; `git apply` of the same change, which flushes nothing; and an SQLite transaction that changes
+as many rows, since a row is what SQLite has in place of a file. Printed are the medians of the rounds, the least and the greatest
+time, how loaded the machine was, and, where strace is there, the flushes that the system saw in one more round.
 
     bench/flushes.py [COUNT..]      how many files; 40 and 400 where none is given
 
@@ -27,7 +27,7 @@ TOP = os.path.dirname(os.path.dirname(os.path.abspath(__file__)))
 PROGRAM = os.environ.get("PROGRAM", os.path.join(TOP, "crates", "wsedit", "out", "wsedit"))
 SOURCE = os.path.join(TOP, "bench", "flushes.c")
 TEXT = "".join(f"line {i} of a file that is moved and edited\n" for i in range(50))
-ROUNDS = 9
+ROUNDS = 15
 TOOLS = tempfile.TemporaryDirectory()
 WRITER = os.path.join(TOOLS.name, "flushes")
 
@@ -143,8 +143,9 @@ def flushes(work, files):
 
 def measure(files):
     took = {name: [] for name, _ in WAYS}
-    for _ in range(ROUNDS):
-        for name, work in WAYS:
+    for i in range(ROUNDS):
+        first = i % len(WAYS)
+        for name, work in WAYS[first:] + WAYS[:first]:
             took[name].append(once(work, files))
     medians = {name: statistics.median(times) for name, times in took.items()}
     print(f"{files} files moved and edited; medians of {ROUNDS} rounds, load {os.getloadavg()[0]:.1f}")
