@@ -3,7 +3,7 @@
 
 Each time it takes a new store, sends edits of two files each, kills the run at a random moment, and starts another one without
 lines. The files must be those of a front of the edits, whole, that has each edit which was answered and at most one more.
-`bin/wsedit`, run once before, builds the program. KILLS_DIR names the folder in which the stores are made."""
+`bin/build`, run once before, builds the program. KILLS_DIR names the folder in which the stores are made."""
 
 import os
 import random

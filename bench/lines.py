@@ -5,7 +5,7 @@ First over more and more creates in nested folders, which come in path order, an
 one command over many files: a folder is renamed, renamed past as many other files, and deleted. Then for one edit of many text
 operations, over more and more files, and for one that renames as many files and edits each. Last, how long a start takes over
 more and more files and records. LINES_DIR names the folder in which the stores are made, whose file system is what is measured:
-without it /dev/shm, so that no disk is waited for. `bin/wsedit`, run once before, builds the program."""
+without it /dev/shm, so that no disk is waited for. `bin/build`, run once before, builds the program."""
 
 import os
 import subprocess
