@@ -1,0 +1,4 @@
+pub mod LinkedLemmas
+pub mod FirstLemmas
+pub mod SearchLemmas
+pub mod PutLemmas

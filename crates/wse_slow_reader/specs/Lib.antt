@@ -1,0 +1,4 @@
+pub mod Split
+pub mod Draft
+pub mod Given
+pub mod Read
