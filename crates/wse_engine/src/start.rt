@@ -22,8 +22,8 @@ impl<D: Disk> Engine<D> {
     /// Opens the store on the disk: the engine of the state for which the disk stands, without locks. A last record that isn't
     /// settled is finished. With `adopt` the paths at which the tree isn't as the elements say are taken as they are.
     ///
-    /// However it ends, a crash at any moment leaves what a crash at the start might have left, or the same state, or with
-    /// `adopt` the adopted one. This project's own rule.
+    /// However it ends, a crash at any moment leaves what a crash at the start might have left, or the same state; or with
+    /// `adopt`, where it answers Ok or that the disk failed, the adopted one. This project's own rule.
     pub fn start(
         alloc: Global,
         disk: D,

@@ -32,7 +32,7 @@ use Rattle.wse_txn.specs.Stands.{StandsFor, IsSameButLocks}
 use Rattle.wse_txn.proofs.OneState.{stands_alike, stands_for_one}
 use Rattle.wse_recover.specs.Adopting.{adopting, adopted_at, IsAdopted}
 use Rattle.wse_recover.specs.Comparing.{IsComparedAs, IsAdoptedWithin, RefusesCompared, RefusesAdopting}
-use Rattle.wse_recover.specs.Open.{opened_state, IsOpened, StandsForOpened, AdoptsWithin, AdoptsTooMuch, IsTooBig, DiffersFirstAt, HasStayed, RefusesOpen}
+use Rattle.wse_recover.specs.Open.{opened_state, IsOpened, StandsForOpened, LeavesOpening, disk_of_open, AdoptsWithin, AdoptsTooMuch, IsTooBig, DiffersFirstAt, HasStayed, RefusesOpen}
 use Rattle.wse_recover.specs.Start.{start_hit}
 use Rattle.wse_recover.specs.declared.open.Opened.{Opened}
 use Rattle.wse_recover.specs.declared.open.OpenFault.{OpenFault}
@@ -129,7 +129,7 @@ refuses_adopting told limits old paths (Err (opens.TooBig new which found)) some
     let t = state_after s (adopting paths) in
     (refl, (t, compared_adopted s t paths some are refl, adopted_other s paths, why.0), why.1)
 refuses_adopting told limits old paths (Err (opens.Differs new p)) some are why = absurd why
-refuses_adopting told limits old paths (Err (opens.Memory new)) some are why = tt
+refuses_adopting told limits old paths (Err (opens.Memory new)) some are why = why
 
 pub some_paths : (paths shown : List Path) → shown ≡ paths → 1 ≤ length shown → paths ≢ []
 some_paths paths shown same some none = let e : length shown ≡ 0 = ap length (same ∙ none) in omega (arith, e, some)
@@ -195,6 +195,19 @@ module _ (adopt : Bool) (start mid : Option Standing) (one : State) (stood : Whe
       from None (Some u) tells at stood = absurd (tells.back tt)
       from (Some t) None tells at stood = absurd (tells.on tt)
       from (Some t) (Some u) tells at stood = λ s stands. stands_alike one s u.reading (stands_for_one.one one s t.reading stood stands) (at tt).stands
+
+-- What a refusal after comparing leaves is what was left before, since nothing was written.
+module _ {D : Type 0} (told : D → Option Standing) (adopt : Bool) (limits : Limits) (disk : D) (o : Opened D) (s : State) (before : LeavesEarlierOr s (told disk) (told o.idle.disk)) where
+  same_leaves : (new : D) → told new ≡ told o.idle.disk → LeavesOnly (told disk) (told new) (EarlierOr false (told disk) s)
+  same_leaves new same = subst (λ (t : Option Standing). LeavesOnly (told disk) t (EarlierOr false (told disk) s)) (sym same) (found_leaves false (told disk) (told o.idle.disk) s before)
+
+  pub leaves_opening : (result : Result (Opened D) (OpenFault D)) → IfErr result (RefusesCompared told adopt limits o) → LeavesOnly (told disk) (told (disk_of_open result)) (EarlierOr adopt (told disk) s) → LeavesOpening adopt told disk s result
+  leaves_opening (Ok x) why leaves = leaves
+  leaves_opening (Err (opens.Disk new)) why leaves = leaves
+  leaves_opening (Err (opens.NotAStore new at)) why leaves = absurd why
+  leaves_opening (Err (opens.TooBig new which found)) why leaves = same_leaves new why.2
+  leaves_opening (Err (opens.Differs new p)) why leaves = same_leaves new why.2
+  leaves_opening (Err (opens.Memory new)) why leaves = same_leaves new why
 
 module _ (adopt : Bool) (limits : Limits) (start : Option Standing) (s : State) where
   pub is_opened : (t : State) → WhereTold start (λ d. StandsFor s d.reading) → IsComparedAs adopt s t → WhereTold start (λ d. IsOpened adopt t d.reading)

@@ -33,6 +33,7 @@ RefusesAt told old p (opens.TooBig new which found) = ⊥
 RefusesAt told old p (opens.Differs new first) = first ≡ p
 RefusesAt told old p (opens.Memory new) = ⊤
 
+-- Why the tree is refused. Unless the disk failed it is as it was.
 abbrev pub RefusesCompared : {D : Type 0} → (D → Option Standing) → (adopt : Bool) → Limits → Opened D → OpenFault D → Type 0
 RefusesCompared told adopt limits old (opens.Disk new) = ⊤
 RefusesCompared told adopt limits old (opens.NotAStore new at) = ⊥
@@ -44,18 +45,18 @@ RefusesCompared told adopt limits old (opens.Differs new p) =
     (adopt ≡ false)
     × ((others : List Path) × AreDiffering old.tree.files old.stacks.state.records (p ∷ others))
     × (told new ≡ told old.idle.disk)
-RefusesCompared told adopt limits old (opens.Memory new) = ⊤
+RefusesCompared told adopt limits old (opens.Memory new) = told new ≡ told old.idle.disk
 
 -- ---- why adopting is refused
 
--- The adopted state passes the limit. The disk is as it was.
+-- The adopted state passes the limit, or there was no memory. Unless the disk failed it is as it was.
 abbrev pub RefusesAdopting : {D : Type 0} → (D → Option Standing) → Limits → Opened D → List Path → OpenFault D → Type 0
 RefusesAdopting told limits old paths (opens.Disk new) = ⊤
 RefusesAdopting told limits old paths (opens.NotAStore new at) = ⊥
 RefusesAdopting told limits old paths (opens.TooBig new which found) =
     (adopting_hit limits (state_after (opened_state old) (adopting paths)) ≡ Some (record { which = which; would_be = found })) × (told new ≡ told old.idle.disk)
 RefusesAdopting told limits old paths (opens.Differs new p) = ⊥
-RefusesAdopting told limits old paths (opens.Memory new) = ⊤
+RefusesAdopting told limits old paths (opens.Memory new) = told new ≡ told old.idle.disk
 
 -- ---- the record of adopting, as it is written
 
@@ -63,13 +64,13 @@ abbrev pub disk_of_written : {D : Type 0} → Result (Resting D) (OpenFault D) �
 disk_of_written (Ok idle) = idle.disk
 disk_of_written (Err fault) = disk_of_fault fault
 
--- The disk failed, or there was no memory.
-abbrev pub FailsToWrite : {D : Type 0} → OpenFault D → Type 0
-FailsToWrite (opens.Disk new) = ⊤
-FailsToWrite (opens.NotAStore new at) = ⊥
-FailsToWrite (opens.TooBig new which found) = ⊥
-FailsToWrite (opens.Differs new p) = ⊥
-FailsToWrite (opens.Memory new) = ⊤
+-- The disk failed; or there was no memory, and the disk is as it was.
+abbrev pub FailedOrStayed : {D : Type 0} → (D → Option Standing) → D → OpenFault D → Type 0
+FailedOrStayed told old (opens.Disk new) = ⊤
+FailedOrStayed told old (opens.NotAStore new at) = ⊥
+FailedOrStayed told old (opens.TooBig new which found) = ⊥
+FailedOrStayed told old (opens.Differs new p) = ⊥
+FailedOrStayed told old (opens.Memory new) = told new ≡ told old
 
 abbrev pub CountsWritten : {D : Type 0} → (D → ℕ) → D → Result (Resting D) (OpenFault D) → Type 0
 CountsWritten faults old result = MatchResult result (λ idle. faults idle.disk ≡ faults old) (CountsFault faults old)

@@ -36,10 +36,10 @@ abbrev pub disk_of_init : {D : Type 0} → Result D (InitFault D) → D
 disk_of_init (Ok disk) = disk
 disk_of_init (Err fault) = disk_of_fault fault
 
--- Where the disk didn't fail its count of faults is as it was.
+-- The count of the disk's faults never falls, and where it didn't fail it is as it was.
 abbrev pub InitGoesOn : {D : Type 0} → (D → ℕ) → D → Result D (InitFault D) → Type 0
 InitGoesOn faults old (Ok new) = faults new ≡ faults old
-InitGoesOn faults old (Err (inits.Disk new)) = ⊤
+InitGoesOn faults old (Err (inits.Disk new)) = faults old ≤ faults new
 InitGoesOn faults old (Err (inits.TooBig new which found)) = faults new ≡ faults old
 InitGoesOn faults old (Err (inits.Memory new)) = faults new ≡ faults old
 

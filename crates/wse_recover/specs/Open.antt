@@ -98,10 +98,25 @@ abbrev pub StandsForOpened : (adopt : Bool) → State → Reading → Type 0
 StandsForOpened false s image = StandsFor s image
 StandsForOpened true s image = StandsFor s image ⊎ ((t : State) × IsAdopted s t × StandsFor t image)
 
--- A crash during opening leaves what a crash at its start might have left, or what stands so.
+-- Whether adopting may have come to the disk before this fault. Only where the disk failed may it: a refusal and want of memory
+-- adopt nothing.
+abbrev pub fault_may_adopt : {D : Type 0} → (adopt : Bool) → OpenFault D → Bool
+fault_may_adopt adopt (opens.Disk disk) = adopt
+fault_may_adopt adopt (opens.NotAStore disk at) = false
+fault_may_adopt adopt (opens.TooBig disk which found) = false
+fault_may_adopt adopt (opens.Differs disk p) = false
+fault_may_adopt adopt (opens.Memory disk) = false
+
+-- Whether it may have come there before this answer.
+abbrev pub may_adopt : {D T : Type 0} → (adopt : Bool) → Result T (OpenFault D) → Bool
+may_adopt adopt (Ok opened) = adopt
+may_adopt adopt (Err fault) = fault_may_adopt adopt fault
+
+-- A crash during opening leaves what a crash at its start might have left, or what stands so, where the adopted state is one
+-- only before an answer before which adopting may have come to the disk.
 abbrev pub LeavesOpening : {D : Type 0} → (adopt : Bool) → (D → Option Standing) → D → State → Result (Opened D) (OpenFault D) → Type 0
 LeavesOpening adopt told old s result =
-    LeavesOnly (told old) (told (disk_of_open result)) (λ image. MayLeave (told old) image ⊎ StandsForOpened adopt s image)
+    LeavesOnly (told old) (told (disk_of_open result)) (λ image. MayLeave (told old) image ⊎ StandsForOpened (may_adopt adopt result) s image)
 
 -- The count of the disk's faults never falls, and where it didn't fail it is as it was.
 abbrev pub OpenGoesOn : {D : Type 0} → (D → ℕ) → D → Result (Opened D) (OpenFault D) → Type 0

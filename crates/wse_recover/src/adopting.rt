@@ -23,7 +23,7 @@ ghost use Rattle.wse_stacks.specs.Stacks.{HaveParts};
 ghost use Rattle.wse_txn.specs.Command.{IsAt, StandsForOneOf};
 ghost use Rattle.wse_txn.specs.Outcomes.{TellsAsBefore};
 ghost use Rattle.wse_recover.specs.Adopting.{adopting, adopting_hit};
-ghost use Rattle.wse_recover.specs.Comparing.{RefusesAdopting, idle_in, disk_of_written, FailsToWrite, CountsWritten};
+ghost use Rattle.wse_recover.specs.Comparing.{RefusesAdopting, idle_in, disk_of_written, FailedOrStayed, CountsWritten};
 ghost use Rattle.wse_recover.specs.Differing.{AreDiffering};
 ghost use Rattle.wse_recover.specs.Held.{held, AreNumbersBounded};
 ghost use Rattle.wse_recover.specs.Open.{opened_state, disk_of_open};
@@ -158,7 +158,7 @@ fn written<D: Disk>(alloc: Global, idle: Idle<D>, plan: Plan) -> Result<Idle<D>,
         → IfOk result (λ new. IsAt (state_after s plan.effects) new.area new.gate (D.told new.disk)) }
     ensures rests { IfOk result (λ new. IsAtRest (D.told new.disk)) }
     ensures tells { IfOk result (λ new. TellsAsBefore (D.told idle.disk) (D.told new.disk)) }
-    ensures refused { IfErr result FailsToWrite }
+    ensures refused { IfErr result (FailedOrStayed D.told idle.disk) }
     ensures later { D.moment_of idle.disk ≤ D.moment_of (disk_of_written result) }
     ensures counts { CountsWritten D.faults idle.disk result }
 {
@@ -194,7 +194,7 @@ fn recorded<D: Disk>(
     ensures parts { IfOk result (λ o. HaveParts o.stacks.state.records) }
     ensures during { IsTold (D.told opened.idle.disk) → LeavesOnly (D.told opened.idle.disk) (D.told (disk_of_open result))
         (StandsForOneOf (opened_state opened) (state_after (opened_state opened) (adopting paths.now))) }
-    ensures refused { IfErr result FailsToWrite }
+    ensures refused { IfErr result (FailedOrStayed D.told opened.idle.disk) }
     ensures later { D.moment_of opened.idle.disk ≤ D.moment_of (disk_of_open result) }
     ensures counts { CountsOpen D.faults opened.idle.disk result }
 {
@@ -221,7 +221,8 @@ fn recorded<D: Disk>(
 }
 
 /// Takes the tree as it is at these paths, at which it differs: the history is invalid there, and the versions rise by one. One
-/// record says so. A crash at any moment leaves a disk that stands for the state before it or for the one after it.
+/// record says so. A crash at any moment leaves a disk that stands for the state before it or for the one after it. Where a limit
+/// is passed, or there is no memory, nothing is written.
 pub(crate) fn adopted<D: Disk>(
     alloc: Global,
     opened: Opened<D>,

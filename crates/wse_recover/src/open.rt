@@ -59,7 +59,8 @@ pub enum OpenFault<D: Disk> {
 /// Opens the store on the disk: syncs, reads the chosen journal, finishes a last record that isn't settled, and tries the tree
 /// against the limits and the elements. With `adopt` what differs is taken as it is: its history becomes invalid and its
 /// version rises by one, as one record. However it ends, a crash at any moment leaves what a crash at the start might have
-/// left, or the same state, or with `adopt` the adopted one.
+/// left, or the same state; or with `adopt`, where it answers Ok or that the disk failed, the adopted one. A refusal and want of
+/// memory adopt nothing.
 pub fn open_store<D: Disk>(
     alloc: Global,
     disk: D,

@@ -9,13 +9,13 @@ use Rattle.wse_disk.specs.Told.{WhereTold}
 use Rattle.wse_io.specs.Stream.{Takes}
 use Rattle.wse_txn.specs.Stands.{IsNoStore}
 use Rattle.wse_txn.proofs.OneState.{stands_for_one}
+use Rattle.wse_stream.specs.Runs.{HasCauses}
 use Rattle.wse_stream.specs.Scene.{Scene, Faults}
 use Rattle.wse_recover.specs.Open.{IsInTheWay, DiffersFirstAt, IsTooBig, AdoptsTooMuch}
-use Rattle.wse_run.specs.Causes.{CountFaults}
 use Rattle.wse_run.specs.Complete.{IsOpenable, IsCalm, IsDoneOrStarved}
 use Rattle.wse_run.specs.End.{ending_of}
 use Rattle.wse_run.specs.Refusal.{IsPassed, IsInDispute}
-use Rattle.wse_run.specs.Run.{RunsStore, Served, Refused, Failed}
+use Rattle.wse_run.specs.Run.{RunsStore, Served, Refused, Failed, Starved}
 use Rattle.wse_run.specs.declared.end.RunEnd.{RunEnd}
 use Rattle.wse_run.specs.declared.end.RunEnd.TheVariants.{Done, Read, Write, Disk, Memory, NotAStore, TooBig, InputLimit, Differs}
 
@@ -42,22 +42,26 @@ module _ (root : Parts) (adopt : Bool) (limits : Limits) (max_input : ℕ) (befo
   no_dispute p (inr other) = open'.agrees other.0 p (told_here (λ d. DiffersFirstAt p d.reading) other.1)
 
   module _ (counts counts' : Faults) (calm : IsCalm max_input before.left counts counts') where
-    pub complete : (end : RunEnd) → CountFaults (ending_of end) counts counts' → RunsStore root adopt limits max_input before now end → IsDoneOrStarved end
+    pub complete : (end : RunEnd) → HasCauses (ending_of end) counts counts' → RunsStore root adopt limits max_input before now end → IsDoneOrStarved end
     complete Done causes run = inl refl
     complete Read causes run = absurd (calm.source causes.source.1)
     complete Write causes run = absurd (calm.sink causes.sink.1)
-    complete Disk causes run = absurd (calm.disk causes.disk)
+    complete Disk causes run = absurd (calm.disk causes.disk.1)
     complete Memory causes run = inr refl
     complete (NotAStore at) causes (Served opened first begins r is) = absurd is
     complete (NotAStore at) causes (Refused unread why) = absurd (no_store at why.0)
-    complete (NotAStore at) causes (Failed unread is) = absurd is
+    complete (NotAStore at) causes (Failed unread is) = cc
+    complete (NotAStore at) causes (Starved unread is) = cc
     complete (TooBig hit) causes (Served opened first begins r is) = absurd is
     complete (TooBig hit) causes (Refused unread why) = absurd (passes_none hit why)
-    complete (TooBig hit) causes (Failed unread is) = absurd is
+    complete (TooBig hit) causes (Failed unread is) = cc
+    complete (TooBig hit) causes (Starved unread is) = cc
     complete (InputLimit limit) causes (Served opened first begins r is) =
         absurd (too_many max_input before.left now.left calm.short.0 r.taken calm.short.1 calm.short.2 r.takes (r.passed refl).0)
     complete (InputLimit limit) causes (Refused unread why) = absurd why
-    complete (InputLimit limit) causes (Failed unread is) = absurd is
+    complete (InputLimit limit) causes (Failed unread is) = cc
+    complete (InputLimit limit) causes (Starved unread is) = cc
     complete (Differs p) causes (Served opened first begins r is) = absurd is
     complete (Differs p) causes (Refused unread why) = absurd (no_dispute p why)
-    complete (Differs p) causes (Failed unread is) = absurd is
+    complete (Differs p) causes (Failed unread is) = cc
+    complete (Differs p) causes (Starved unread is) = cc

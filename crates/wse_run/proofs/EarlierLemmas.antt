@@ -8,7 +8,7 @@ use Rattle.wse_disk.specs.Told.{CountsMoments}
 use Rattle.wse_io.specs.Stream.{Piece}
 use Rattle.wse_io.proofs.StreamLemmas.{within_wider}
 use Rattle.wse_stream.specs.Scene.{Scene, scene}
-use Rattle.wse_run.specs.Run.{RunsStore, Served, Refused, Failed}
+use Rattle.wse_run.specs.Run.{RunsStore, Served, Refused, Failed, Starved}
 use Rattle.wse_run.specs.declared.end.RunEnd.{RunEnd}
 use Rattle.wse_run.proofs.OpeningLemmas.{disk_told}
 
@@ -35,6 +35,7 @@ module _ (root : Parts) (adopt : Bool) (limits : Limits) (max_input : ℕ) (left
       }) is
   untold old mid le (Refused unread why) = Refused (record { source = unread.source; sink = unread.sink; later = omega (arith, le, unread.later); images = λ t. absurd t }) why
   untold old mid le (Failed unread is) = Failed (record { source = unread.source; sink = unread.sink; later = omega (arith, le, unread.later); images = λ t. absurd t }) is
+  untold old mid le (Starved unread is) = Starved (record { source = unread.source; sink = unread.sink; later = omega (arith, le, unread.later); images = λ t. absurd t }) is
 
   by_told : (old mid : ℕ) (told : Option Standing) → old ≤ mid → CountsMoments told old → CountsMoments told mid
       → RunsStore root adopt limits max_input (scene left pieces (disk_told mid told)) now end → RunsStore root adopt limits max_input (scene left pieces (disk_told old told)) now end

@@ -74,7 +74,7 @@ module _ (root : Parts) (limits : Limits) (max_input : ℕ) (left : Option (List
   may_become adopt moment told s image (inl may) = inl (AtStart may)
   may_become false moment told s image (inr stands) = inl (AsOpened stands)
   may_become true moment told s image (inr (inl stands)) = inl (AsOpened stands)
-  may_become true moment told s image (inr (inr other)) = inr (other.0, (refl, other.1), other.2)
+  may_become true moment told s image (inr (inr other)) = inr other
 
   stands_read : (told : Option Standing) (s : State) → IsTold told → WhereTold told (λ d. StandsFor s d.reading) → StandsFor s (reading_of told)
   stands_read None s t is = absurd t

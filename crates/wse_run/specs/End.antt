@@ -38,15 +38,3 @@ IsServedEnd max_input (NotAStore at) = ⊥
 IsServedEnd max_input (TooBig hit) = ⊥
 IsServedEnd max_input (InputLimit limit) = limit ≡ max_input
 IsServedEnd max_input (Differs p) = ⊥
-
--- The disk failed, or there was no memory.
-abbrev pub IsFailure : RunEnd → Type 0
-IsFailure Done = ⊥
-IsFailure Read = ⊥
-IsFailure Write = ⊥
-IsFailure Disk = ⊤
-IsFailure Memory = ⊤
-IsFailure (NotAStore at) = ⊥
-IsFailure (TooBig hit) = ⊥
-IsFailure (InputLimit limit) = ⊥
-IsFailure (Differs p) = ⊥

@@ -1,4 +1,3 @@
-pub mod Causes
 pub mod Complete
 pub mod End
 pub mod Fault

@@ -27,9 +27,10 @@ pub record Begins (adopt : Bool) (limits : Limits) (told : Option Standing) (ope
   pub fits : limit_hit limits first.files ≡ None
   pub adopts : WhereTold told (λ s. AdoptsWithin limits first s.reading)
 
--- Adopting is asked for, and makes the second state of the first.
+-- Where adopting may have come to the disk, it makes the second state of the first. Else nothing does.
 abbrev pub MayAdopt : (adopt : Bool) → State → State → Type 0
-MayAdopt adopt s t = (adopt ≡ true) × IsAdopted s t
+MayAdopt false s t = ⊥
+MayAdopt true s t = IsAdopted s t
 
 -- No line was read: the source and the sink are as they were. What a crash may leave since the start is what it might have left
 -- then, or stands for the state for which what is read stands, or for one that may become of it.

@@ -1,5 +1,5 @@
 -- A run over a store. This project's own rule.
-use Rattle.std.specs.Prelude.{ℕ, Bool}
+use Rattle.std.specs.Prelude.{◌≡◌, ℕ, Bool, false}
 use Rattle.url.specs.Parts.{Parts}
 use Rattle.wse_path.specs.declared.limits.Limits.{Limits}
 use Rattle.wse_element.specs.State.{State}
@@ -7,10 +7,11 @@ use Rattle.wse_stream.specs.Machine.{Machine}
 use Rattle.wse_stream.specs.Opened.{RunsFrom}
 use Rattle.wse_stream.specs.Scene.{Scene}
 use Rattle.wse_store.specs.Store.{serving}
-use Rattle.wse_run.specs.End.{ending_of, IsServedEnd, IsFailure}
+use Rattle.wse_run.specs.End.{ending_of, IsServedEnd}
 use Rattle.wse_run.specs.Refusal.{IsRefusal}
 use Rattle.wse_run.specs.Opening.{Begins, MayAdopt, Unread}
 use Rattle.wse_run.specs.declared.end.RunEnd.{RunEnd}
+use Rattle.wse_run.specs.declared.end.RunEnd.TheVariants.{Disk, Memory}
 
 -- The machine of a store with this root and these limits.
 abbrev pub machine_of : Parts → Limits → Machine State
@@ -22,9 +23,12 @@ pub data RunsStore (root : Parts) (adopt : Bool) (limits : Limits) (max_input : 
   Served : (opened first : State) → Begins adopt limits before.disk.told opened first
       → RunsFrom (machine_of root limits) opened first max_input before now (ending_of end)
       → IsServedEnd max_input end → RunsStore root adopt limits max_input before now end
-  -- It was refused, and the end tells why.
-  Refused : Unread (machine_of root limits) (MayAdopt adopt) before now
+  -- It was refused, and the end tells why. Nothing was adopted.
+  Refused : Unread (machine_of root limits) (MayAdopt false) before now
       → IsRefusal adopt limits before.disk.told now.disk.told end → RunsStore root adopt limits max_input before now end
-  -- The disk failed, or there was no memory, before it was opened.
+  -- The disk failed before it was opened. With `adopt` adopting may have come to the disk.
   Failed : Unread (machine_of root limits) (MayAdopt adopt) before now
-      → IsFailure end → RunsStore root adopt limits max_input before now end
+      → end ≡ Disk → RunsStore root adopt limits max_input before now end
+  -- There was no memory before it was opened. Nothing was adopted.
+  Starved : Unread (machine_of root limits) (MayAdopt false) before now
+      → end ≡ Memory → RunsStore root adopt limits max_input before now end

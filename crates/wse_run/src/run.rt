@@ -4,9 +4,9 @@ ghost use Rattle.wse_path.specs.Limits.{standard};
 ghost use Rattle.wse_apply.specs.Limit.{are_within};
 ghost use Rattle.wse_disk.specs.Standing.{Standing};
 ghost use Rattle.wse_uri.specs.FileUrl.{IsPlainFileUrl};
+ghost use Rattle.wse_stream.specs.Runs.{HasCauses};
 ghost use Rattle.wse_stream.specs.Scene.{disk_at, scene, faults};
 ghost use Rattle.wse_recover.specs.Open.{disk_of_fault};
-ghost use Rattle.wse_run.specs.Causes.{CountFaults};
 ghost use Rattle.wse_run.specs.Complete.{IsOpenable, IsCalm, IsDoneOrStarved};
 ghost use Rattle.wse_run.specs.End.{ending_of};
 ghost use Rattle.wse_run.specs.Fault.{end_of_fault};
@@ -80,7 +80,8 @@ fn unopened<D: Disk>(fault: OpenFault<D>) -> RanStore<D>
 /// - A crash at any moment leaves what stands for the state after a front of the lines to which all that was out by then are
 ///   answers. Before the first piece it may also be what a crash might have left at the start, or what stands for the state
 ///   for which the disk was opened.
-/// - A store that isn't opened says exactly why, and no line is read.
+/// - A store that isn't opened says exactly why, and no line is read. Nothing is adopted then, unless the disk failed.
+/// - No count of faults falls, and only that of what failed rose.
 /// - Where nothing fails, none of the causes for a refusal holds and the source has no more bytes than may be read, all is
 ///   done, unless there is no memory.
 pub fn run_store<D: Disk, S: Source, K: Sink>(
@@ -98,7 +99,7 @@ pub fn run_store<D: Disk, S: Source, K: Sink>(
         (scene (S.left source.old) (K.pieces out.old) (disk_at D.moment_of D.told disk))
         (scene (S.left source.new) (K.pieces out.new) (disk_at D.moment_of D.told result.disk))
         result.end }
-    ensures causes { CountFaults (ending_of result.end)
+    ensures causes { HasCauses (ending_of result.end)
         (faults (S.faults source.old) (K.faults out.old) (D.faults disk))
         (faults (S.faults source.new) (K.faults out.new) (D.faults result.disk)) }
     ensures complete { (s : Standing) → D.told disk ≡ Some s → IsOpenable run.adopt run.limits s.reading

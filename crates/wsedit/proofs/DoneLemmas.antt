@@ -1,6 +1,6 @@
 -- What is done, by what the words ask for.
 use Rattle.std.proofs.Common.{◌≡◌, ◌⊎◌, inl, inr, ⊎_elim, ℕ, ◌≤◌, List, Option, Some, None, refl, sym, ap, subst, ◌∙◌, arith}
-use Rattle.std.specs.Prelude.{Bool}
+use Rattle.std.specs.Prelude.{Bool, false}
 use Rattle.url.specs.Parts.{Parts}
 use Rattle.wse_path.specs.Causes.{Rose}
 use Rattle.wse_path.specs.declared.limits.Limits.{Limits}
@@ -9,7 +9,8 @@ use Rattle.wse_disk.specs.Standing.{Standing}
 use Rattle.wse_disk.specs.Told.{MayLeave, CountsMoments}
 use Rattle.wse_disk.specs.Calls.{Told}
 use Rattle.wse_disk.proofs.Moments.{no_call}
-use Rattle.wse_stream.specs.Runs.{Ending}
+use Rattle.wse_stream.specs.Causes.{CountsFault}
+use Rattle.wse_stream.specs.Runs.{Ending, HasCauses}
 use Rattle.wse_stream.specs.Scene.{Scene, Faults, faults}
 use Rattle.wse_recover.specs.Measure.{TellsHit}
 use Rattle.wse_recover.specs.Start.{start_hit}
@@ -20,10 +21,9 @@ use Rattle.wse_words.specs.declared.words.Words.{Words as ReadWords}
 use Rattle.wse_words.specs.declared.words.Words.TheVariants as words
 use Rattle.wse_words.specs.declared.words.Places.{Places}
 use Rattle.wse_words.specs.declared.options.Options.{Options}
-use Rattle.wse_run.specs.Causes.{RoseWhere, CountFaults}
 use Rattle.wse_run.specs.Complete.{IsOpenable, IsCalm}
 use Rattle.wse_run.specs.End.{ending_of}
-use Rattle.wse_run.specs.Run.{RunsStore, Failed}
+use Rattle.wse_run.specs.Run.{RunsStore, Starved}
 use Rattle.wse_run.specs.declared.end.RunEnd.{RunEnd}
 use Rattle.wse_run.specs.declared.end.RunEnd.TheVariants.{Done, Read, Write, Disk, Memory, NotAStore, TooBig, InputLimit, Differs}
 use Rattle.wse_run.proofs.CompleteLemmas.{complete}
@@ -47,15 +47,15 @@ untouched_disk told = record { reading = reads_itself told; leaves = no_call tol
 pub no_memory : (limits : Limits) (before : Scene) (asked : Asked) → CountsMoments before.disk.told before.disk.moment → Does limits before before asked (Ran Memory)
 no_memory limits before (Init tree store) counts = record { source = refl; sink = refl; later = omega arith; made = untouched_disk before.disk.told }
 no_memory limits before (Run tree store root adopt max_input) counts =
-    Failed (untouched root limits max_input before.left before.pieces adopt before.disk.moment before.disk.told before.disk.moment before.disk.told counts (omega arith) refl) tt
+    Starved (untouched root limits max_input before.left before.pieces false before.disk.moment before.disk.told before.disk.moment before.disk.told counts (omega arith) refl) refl
 
 -- the causes by the number
-pub causes_by : (end : RunEnd) (before now : Faults) → CountFaults (ending_of end) before now → CountFaults (ending_by (code_of_end end)) before now
-causes_by end before now causes = subst (λ (e : Ending). CountFaults e before now) (sym (ending_code end)) causes
+pub causes_by : (end : RunEnd) (before now : Faults) → HasCauses (ending_of end) before now → HasCauses (ending_by (code_of_end end)) before now
+causes_by end before now causes = subst (λ (e : Ending). HasCauses e before now) (sym (ending_code end)) causes
 
 -- the causes where a store is made
-pub made_causes : (limits : Limits) (old new : Option Standing) (end : RunEnd) (source sink before now : ℕ) → HasMadeOr limits old new end → RoseWhere (ending_of end).disk before now
-    → CountFaults (ending_of end) (faults source sink before) (faults source sink now)
+pub made_causes : (limits : Limits) (old new : Option Standing) (end : RunEnd) (source sink before now : ℕ) → HasMadeOr limits old new end → CountsFault (ending_of end).disk before now
+    → HasCauses (ending_of end) (faults source sink before) (faults source sink now)
 made_causes limits old new Done source sink before now made rose = record { source = refl; sink = refl; disk = rose }
 made_causes limits old new Read source sink before now made rose = absurd made
 made_causes limits old new Write source sink before now made rose = absurd made
@@ -87,20 +87,20 @@ none_some (Some x) hit e h = cc
 
 -- a run that can't but be done, by its status
 pub done_by : (limits : Limits) (before now : Scene) (counts counts' : Faults) (tree store : List ℕ) (root : Parts) (adopt : Bool) (max_input : ℕ) (end : Status) (s : Standing) → before.disk.told ≡ Some s → IsOpenable adopt limits s.reading
-    → IsCalm max_input before.left counts counts' → CountFaults (ending_by (code_of end)) counts counts' → Does limits before now (Run tree store root adopt max_input) end → (code_of end ≡ 0) ⊎ (code_of end ≡ 6)
+    → IsCalm max_input before.left counts counts' → HasCauses (ending_by (code_of end)) counts counts' → Does limits before now (Run tree store root adopt max_input) end → (code_of end ≡ 0) ⊎ (code_of end ≡ 6)
 done_by limits before now counts counts' tree store root adopt max_input Words s told is calm causes does = absurd does
 done_by limits before now counts counts' tree store root adopt max_input (Ran end) s told is calm causes does =
     ⊎_elim (λ done. inl (ap code_of_end done)) (λ starved. inr (ap code_of_end starved))
-    (complete root adopt limits max_input before now s told is counts counts' calm end (subst (λ (e : Ending). CountFaults e counts counts') (ending_code end) causes) does)
+    (complete root adopt limits max_input before now s told is counts counts' calm end (subst (λ (e : Ending). HasCauses e counts counts') (ending_code end) causes) does)
 
 -- a store that can't but be made
 pub made_by : (limits : Limits) (before now : Scene) (counts counts' : Faults) (tree store : List ℕ) (end : Status) (s : Standing) → before.disk.told ≡ Some s → start_hit limits s.reading.files ≡ None
-    → (Rose counts.disk counts'.disk → ⊥) → CountFaults (ending_by (code_of end)) counts counts' → Does limits before now (Init tree store) end → (code_of end ≡ 0) ⊎ (code_of end ≡ 6)
+    → (Rose counts.disk counts'.disk → ⊥) → HasCauses (ending_by (code_of end)) counts counts' → Does limits before now (Init tree store) end → (code_of end ≡ 0) ⊎ (code_of end ≡ 6)
 made_by limits before now counts counts' tree store Words s told fits calm causes does = absurd does
 made_by limits before now counts counts' tree store (Ran Done) s told fits calm causes does = inl refl
 made_by limits before now counts counts' tree store (Ran Read) s told fits calm causes does = absurd does.made
 made_by limits before now counts counts' tree store (Ran Write) s told fits calm causes does = absurd does.made
-made_by limits before now counts counts' tree store (Ran Disk) s told fits calm causes does = absurd (calm causes.disk)
+made_by limits before now counts counts' tree store (Ran Disk) s told fits calm causes does = absurd (calm causes.disk.1)
 made_by limits before now counts counts' tree store (Ran Memory) s told fits calm causes does = inr refl
 made_by limits before now counts counts' tree store (Ran (NotAStore at)) s told fits calm causes does = absurd does.made
 made_by limits before now counts counts' tree store (Ran (TooBig hit)) s told fits calm causes does =

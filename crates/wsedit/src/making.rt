@@ -2,7 +2,7 @@
 ghost use Rattle.std.specs.Prelude.{◌≡◌, ◌≤◌, true};
 ghost use Rattle.wse_path.specs.Limits.{standard};
 ghost use Rattle.wse_apply.specs.Limit.{are_within};
-ghost use Rattle.wse_run.specs.Causes.{RoseWhere};
+ghost use Rattle.wse_stream.specs.Causes.{CountsFault};
 ghost use Rattle.wse_run.specs.End.{ending_of};
 ghost use Rattle.wsedit.specs.Making.{HasMadeOr};
 
@@ -18,7 +18,7 @@ fn make_store<D: Disk>(alloc: Global, disk: D, limits: &Limits) -> RanStore<D>
     requires { are_within limits.now standard ≡ true }
     ensures made { HasMadeOr limits.now (D.told disk) (D.told result.disk) result.end }
     ensures later { D.moment_of disk ≤ D.moment_of result.disk }
-    ensures cause { RoseWhere (ending_of result.end).disk (D.faults disk) (D.faults result.disk) }
+    ensures cause { CountsFault (ending_of result.end).disk (D.faults disk) (D.faults result.disk) }
 {
     match init_store(alloc, disk, limits) {
         Ok(disk) => RanStore {
@@ -53,7 +53,7 @@ pub fn place_and_make<D: Place>(
     requires { are_within limits.now standard ≡ true }
     ensures made { HasMadeOr limits.now (D.told disk) (D.told result.disk) result.end }
     ensures later { D.moment_of disk ≤ D.moment_of result.disk }
-    ensures cause { RoseWhere (ending_of result.end).disk (D.faults disk) (D.faults result.disk) }
+    ensures cause { CountsFault (ending_of result.end).disk (D.faults disk) (D.faults result.disk) }
 {
     let mut disk = disk;
     match disk.place(places.tree, places.store) {

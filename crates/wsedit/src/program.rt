@@ -6,10 +6,10 @@ ghost use Rattle.wse_path.specs.Limits.{standard};
 ghost use Rattle.wse_apply.specs.Limit.{are_within};
 ghost use Rattle.wse_disk.specs.Standing.{Standing};
 ghost use Rattle.wse_recover.specs.Start.{start_hit};
+ghost use Rattle.wse_stream.specs.Runs.{HasCauses};
 ghost use Rattle.wse_stream.specs.Scene.{disk_at, scene, faults};
 ghost use Rattle.wse_words.specs.Words.{Asked, Init, Run, texts_of, asked_by};
 ghost use Rattle.wse_words.specs.Read.{asked_of, HasPlainRoot};
-ghost use Rattle.wse_run.specs.Causes.{CountFaults};
 ghost use Rattle.wse_run.specs.Complete.{IsOpenable, IsCalm};
 ghost use Rattle.wse_run.specs.End.{ending_of};
 ghost use Rattle.wsedit.specs.Status.{code_of, IsStatus, ending_by};
@@ -48,7 +48,7 @@ fn do_words<S: Source, K: Sink, D: Place>(
         (scene (S.left source.old) (K.pieces out.old) (disk_at D.moment_of D.told disk))
         (scene (S.left source.new) (K.pieces out.new) (disk_at D.moment_of D.told result.disk))
         (asked_of words.entry) (Ran result.end) }
-    ensures causes { CountFaults (ending_of result.end)
+    ensures causes { HasCauses (ending_of result.end)
         (faults (S.faults source.old) (K.faults out.old) (D.faults disk))
         (faults (S.faults source.new) (K.faults out.new) (D.faults result.disk)) }
 {
@@ -93,7 +93,7 @@ fn run_words<S: Source, K: Sink, D: Place>(
         (scene (S.left source.old) (K.pieces out.old) (disk_at D.moment_of D.told disk))
         (scene (S.left source.new) (K.pieces out.new) (disk_at D.moment_of D.told result.disk))
         asked result.status }
-    ensures causes { CountFaults (ending_by (code_of result.status))
+    ensures causes { HasCauses (ending_by (code_of result.status))
         (faults (S.faults source.old) (K.faults out.old) (D.faults disk))
         (faults (S.faults source.new) (K.faults out.new) (D.faults result.disk)) }
 {
@@ -128,6 +128,8 @@ fn run_words<S: Source, K: Sink, D: Place>(
 /// - Status 9: the source gave one byte past the most that are read as lines.
 /// - Status 10: a path isn't as the history says, or a file is in the way of an unsettled record. No line is read.
 ///
+/// At 7, 8 and 10 nothing is adopted, nor at 6 where there was no memory to open the store.
+///
 /// All of this is this project's own rule.
 pub fn run_within<S: Source, K: Sink, E: Sink, D: Place>(
     alloc: Global,
@@ -147,7 +149,7 @@ pub fn run_within<S: Source, K: Sink, E: Sink, D: Place>(
         (scene (S.left source.new) (K.pieces out.new) (disk_at D.moment_of D.told result.disk))
         (asked_by (texts_of words.now)) result.status
         (E.pieces errs.old) (E.pieces errs.new) (E.faults errs.old) (E.faults errs.new) }
-    ensures causes { CountFaults (ending_by result.status)
+    ensures causes { HasCauses (ending_by result.status)
         (faults (S.faults source.old) (K.faults out.old) (D.faults disk))
         (faults (S.faults source.new) (K.faults out.new) (D.faults result.disk)) }
     ensures statuses { IsStatus result.status }
@@ -188,7 +190,7 @@ pub fn run<S: Source, K: Sink, E: Sink, D: Place>(
         (scene (S.left source.new) (K.pieces out.new) (disk_at D.moment_of D.told result.disk))
         (asked_by (texts_of words.now)) result.status
         (E.pieces errs.old) (E.pieces errs.new) (E.faults errs.old) (E.faults errs.new) }
-    ensures causes { CountFaults (ending_by result.status)
+    ensures causes { HasCauses (ending_by result.status)
         (faults (S.faults source.old) (K.faults out.old) (D.faults disk))
         (faults (S.faults source.new) (K.faults out.new) (D.faults result.disk)) }
     ensures statuses { IsStatus result.status }

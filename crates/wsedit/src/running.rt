@@ -3,8 +3,8 @@ ghost use Rattle.std.specs.Prelude.{◌≡◌, ◌≤◌, ◌^◌, true};
 ghost use Rattle.wse_path.specs.Limits.{standard};
 ghost use Rattle.wse_apply.specs.Limit.{are_within};
 ghost use Rattle.wse_uri.specs.FileUrl.{IsPlainFileUrl};
+ghost use Rattle.wse_stream.specs.Runs.{HasCauses};
 ghost use Rattle.wse_stream.specs.Scene.{disk_at, scene, faults};
-ghost use Rattle.wse_run.specs.Causes.{CountFaults};
 ghost use Rattle.wse_run.specs.End.{ending_of};
 ghost use Rattle.wse_run.specs.Run.{RunsStore};
 
@@ -31,7 +31,7 @@ pub fn place_and_run<S: Source, K: Sink, D: Place>(
         (scene (S.left source.old) (K.pieces out.old) (disk_at D.moment_of D.told disk))
         (scene (S.left source.new) (K.pieces out.new) (disk_at D.moment_of D.told result.disk))
         result.end }
-    ensures causes { CountFaults (ending_of result.end)
+    ensures causes { HasCauses (ending_of result.end)
         (faults (S.faults source.old) (K.faults out.old) (D.faults disk))
         (faults (S.faults source.new) (K.faults out.new) (D.faults result.disk)) }
 {

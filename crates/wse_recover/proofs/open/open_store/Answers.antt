@@ -1,8 +1,8 @@
 use Rattle.std.proofs.Common.{IfOk, Result, Ok, Err}
 use Rattle.std.proofs.lemmas.Result.{err_from_is_err_and}
 use Rattle.wse_disk.specs.Told.{WhereTold}
-use Rattle.wse_recover.specs.Open.{opened_state, disk_of_open, disk_of_fault}
-use Rattle.wse_recover.proofs.ComparingLemmas.{is_opened, adopts_within, found_leaves, opened_leaves, tells_on, refuses_open}
+use Rattle.wse_recover.specs.Open.{opened_state, disk_of_open, disk_of_fault, fault_may_adopt}
+use Rattle.wse_recover.proofs.ComparingLemmas.{is_opened, adopts_within, found_leaves, opened_leaves, leaves_opening, tells_on, refuses_open}
 use Rattle.wse_recover.proofs.open.open_store.Goals as goal
 
 if_ok : {T E : Type 0} (P Q : T → Type 0) (result : Result T E) → ((x : T) → P x → Q x) → IfOk result P → IfOk result Q
@@ -13,7 +13,7 @@ pub returns-in_err-opened-clause-during : goal.returns-in_err-opened-clause-duri
 returns-in_err-opened-clause-during g c =
     let told = g.D.Disk.told in
     let p = err_from_is_err_and c.from_residual.result c.from_residual.ensures.1 in
-    rw (p.1, p.2) (λ s stands. found_leaves c.args.adopt (told c.args.disk) (told (disk_of_fault c.in_err-opened.field-0.0)) s (c.in_err-opened.ensures.during s stands))
+    rw (p.1, p.2) (λ s stands. found_leaves (fault_may_adopt c.args.adopt c.in_err-opened.field-0.0) (told c.args.disk) (told (disk_of_fault c.in_err-opened.field-0.0)) s (c.in_err-opened.ensures.during s stands))
 
 pub returns-clause-opened : goal.returns-clause-opened
 returns-clause-opened g c =
@@ -34,8 +34,10 @@ pub returns-clause-during : goal.returns-clause-during
 returns-clause-during g c = λ s stands.
     let told = g.D.Disk.told in
     let o = c.in_ok-opened.opened in
-    opened_leaves c.args.adopt (told c.args.disk) (told o.idle.disk) (opened_state o) c.in_ok-opened.ensures.stood (told (disk_of_open c.compared.result)) c.in_ok-opened.ensures.tells c.compared.ensures.during s stands
-    (c.in_ok-opened.ensures.during s stands)
+    let before = c.in_ok-opened.ensures.during s stands in
+    leaves_opening told c.args.adopt c.args.limits.now c.args.disk o s before c.compared.result c.compared.ensures.refused
+    (opened_leaves c.args.adopt (told c.args.disk) (told o.idle.disk) (opened_state o) c.in_ok-opened.ensures.stood (told (disk_of_open c.compared.result)) c.in_ok-opened.ensures.tells c.compared.ensures.during s stands
+    before)
 
 pub returns-clause-refused : goal.returns-clause-refused
 returns-clause-refused g c =

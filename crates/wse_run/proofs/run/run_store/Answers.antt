@@ -2,9 +2,8 @@ use Rattle.std.proofs.Common.{◌≡◌, sym, ap, subst, ◌∙◌}
 use Rattle.wse_stream.specs.Runs.{Ending, Runs, HasCauses}
 use Rattle.wse_stream.specs.Scene.{disk_at, scene, faults}
 use Rattle.wse_server.specs.Serving.{ending_of as ending_of_serving}
-use Rattle.wse_recover.specs.Open.{disk_of_fault}
+use Rattle.wse_recover.specs.Open.{disk_of_fault, fault_may_adopt}
 use Rattle.wse_engine.specs.Engine.{EngineNow}
-use Rattle.wse_run.specs.Causes.{CountFaults}
 use Rattle.wse_run.specs.End.{ending_of, end_of_served}
 use Rattle.wse_run.specs.Run.{machine_of, RunsStore}
 use Rattle.wse_run.specs.declared.end.RunEnd.{RunEnd}
@@ -20,7 +19,7 @@ returns-in-Err-clause-run g c =
     let told = g.D.Disk.told in
     let run = c.args.run in
     unopened_by moment_of told g.D.Disk.faults run.adopt run.limits c.args.disk run.root run.max_input _ _ c.in-Err.fault c.unopened.result.disk c.unopened.result.end c.unopened.ensures.disk c.unopened.ensures.end
-    (unread run.root run.limits run.max_input _ _ run.adopt (moment_of c.args.disk) (told c.args.disk) (disk_at moment_of told (disk_of_fault c.in-Err.fault)) (g.met.D.Disk.counts_moments c.args.disk) c.in-Err.ensures.later c.in-Err.ensures.during)
+    (unread run.root run.limits run.max_input _ _ (fault_may_adopt run.adopt c.in-Err.fault) (moment_of c.args.disk) (told c.args.disk) (disk_at moment_of told (disk_of_fault c.in-Err.fault)) (g.met.D.Disk.counts_moments c.args.disk) c.in-Err.ensures.later c.in-Err.ensures.during)
     c.in-Err.ensures.refused
 
 pub returns-in-Err-clause-causes : goal.returns-in-Err-clause-causes
@@ -57,7 +56,7 @@ returns-clause-causes g c =
     let sink = g.K.Sink.faults c.args.out.now in
     let before = faults source sink (count c.args.disk) in
     let now = faults (g.S.Source.faults c.serve-disk.new.source) (g.K.Sink.faults c.serve-disk.new.out) (count c.serve-disk.result.disk) in
-    subst (λ (e : RunEnd). CountFaults (ending_of e) before now) {x = end_of_served run.max_input end} (sym {b = end_of_served run.max_input end} c.end_of_served.ensures)
+    subst (λ (e : RunEnd). HasCauses (ending_of e) before now) {x = end_of_served run.max_input end} (sym {b = end_of_served run.max_input end} c.end_of_served.ensures)
     (served_causes run.max_input end before now
     (subst (λ n. HasCauses (ending_of_serving end) (faults source sink n) now)
     (ap (λ (e : EngineNow g.row.D.Denot). count e.disk) c.server_of-server.ensures.engine ∙ c.in-Ok.ensures.kept) c.serve-disk.ensures.causes))
