@@ -86,9 +86,9 @@ was_in (x ∷ records) other first id q l is =
     elim (has_id other x) as (λ b. find (has_id id) (cond b (pieces x first) (x ∷ []) ++ split records other first) ≡ Some q → (q ≡ x) ⊎ In q records) [
       | true ↦ λ e. inr (was_in records other first id q l (sym (no_piece x (live_parts x) first id (split records other first) l) ∙ e))
       | false ↦ λ e. elim (has_id id x) as (λ b. cond b (Some x) (find (has_id id) (split records other first)) ≡ Some q → (q ≡ x) ⊎ In q records) [
-          | true ↦ λ f. inl (sym (same_Some x q f))
-          | false ↦ λ f. inr (was_in records other first id q l f)
-        ] e
+        | true ↦ λ f. inl (sym (same_Some x q f))
+        | false ↦ λ f. inr (was_in records other first id q l f)
+      ] e
     ] is
 
 was_found : (s : State) (note : Option SplitNote) (id : ℕ) (q : Record) → are_different (ids s.records) ≡ true → id < s.next_id → record_of (moved_among s note) id ≡ Some q → record_of s.records id ≡ Some q
@@ -147,7 +147,7 @@ module _ (limits : Limits) (s : State) (set : IsHistory s limits) (by : ℕ) (pa
       let there = moved_there Forward g.h r.id g.may in
       let linked = sound_next.linked.kept.records in
       let was = was_found next again_note r.id there.moved linked.different (taken_of next.next_id next.records r.id (with_done r false) linked.numbered found_next)
-          (ap (λ (records : List Record). record_of records r.id) (sym g.among) ∙ there.is) in
+      (ap (λ (records : List Record). record_of records r.id) (sym g.among) ∙ there.is) in
       let same : there.moved ≡ with_done r false = same_Some there.moved (with_done r false) (sym was ∙ found_next) in
       let sets : contents_set g.h.records (MoveForward r.id) ≡ new_contents r = sets_contents Forward g.h.records r.id there.moved there.is ∙ ap new_contents same in
       moved_files limits next Forward again_note r.id o g

@@ -1,5 +1,5 @@
 -- States one after another, each left by a command or the same as before: a life, and the trees around an id's coming.
-use Rattle.std.proofs.Common.{◌≡◌, ℕ, zero, suc, ◌+◌, ◌-◌, ◌<◌, ◌≤◌, Bool, true, false, cond, ◌&&◌, ltb, leb, List, [], ◌∷◌, Option, Some, None, refl, sym, ap, subst, ◌∙◌, arith}
+use Rattle.std.proofs.Common.{◌≡◌, ℕ, zero, suc, ◌+◌, ◌<◌, ◌≤◌, Bool, true, false, cond, ◌&&◌, ltb, leb, List, [], ◌∷◌, Option, Some, None, refl, sym, ap, subst, ◌∙◌, arith}
 use Rattle.std.specs.List.{AllByRecursion}
 use Rattle.std.specs.Option.{option_map_or}
 use Rattle.std.proofs.lemmas.Bool.{lt-ltb, ltb-true, leb-true, leb-false}
@@ -73,8 +73,8 @@ through a b c le more = omega (arith, le, more)
 both_orders : (j k : ℕ) → j ≤ k → k ≤ j → k ≡ j
 both_orders j k le more = omega (arith, le, more)
 
-up_to : (j k : ℕ) → j ≤ k → (k - j) + j ≡ k
-up_to j k le = omega (arith, le)
+before_of : (j k : ℕ) → j < suc k → j ≤ k
+before_of j k lt = omega (arith, lt)
 
 crossed : (a b c : ℕ) → a ≤ b → b < c → c ≤ a → ⊥
 crossed a b c le lt more = omega (arith, le, lt, more)
@@ -110,12 +110,12 @@ module _ (limits : Limits) (at : ℕ → State) (nexts : (k : ℕ) → IsNext li
   agree_at begins k p = subst (λ (s : State). AllByRecursion (AgreesAt (at zero) (lives k) p) (live_at s.records p)) (lived_at k)
       (life_agrees (at zero) (lives k) p (is_life begins k) (none_came (at zero) p (live_at (at zero).records p)))
 
-  far_rises : (j far : ℕ) → (at j).next_id ≤ (at (far + j)).next_id
-  far_rises j zero = same_le (at j).next_id
-  far_rises j (suc far) = through (at j).next_id (at (far + j)).next_id (at (suc (far + j))).next_id (far_rises j far) (next_rises limits (at (far + j)) (at (suc (far + j))) (nexts (far + j)))
-
   later_rises : (j k : ℕ) → j ≤ k → (at j).next_id ≤ (at k).next_id
-  later_rises j k le = subst (λ n. (at j).next_id ≤ (at n).next_id) (up_to j k le) (far_rises j (k - j))
+  later_rises j zero le = subst (λ n. (at n).next_id ≤ (at zero).next_id) (both_orders j zero le (none_before j)) (same_le (at zero).next_id)
+  later_rises j (suc k) le =
+      by_order ((at j).next_id ≤ (at (suc k)).next_id) j (suc k)
+      (λ lt. through (at j).next_id (at k).next_id (at (suc k)).next_id (later_rises j k (before_of j k lt)) (next_rises limits (at k) (at (suc k)) (nexts k)))
+      (λ more. subst (λ n. (at n).next_id ≤ (at (suc k)).next_id) (both_orders j (suc k) le more) (same_le (at (suc k)).next_id))
 
   -- an id comes with one state only
   one_place : (j k id : ℕ) → (at j).next_id ≤ id → id < (at (suc j)).next_id → (at k).next_id ≤ id → id < (at (suc k)).next_id → k ≡ j
