@@ -1,8 +1,8 @@
 -- Undone work over the lines of a run.
-use Rattle.std.proofs.Common.{◌≡◌, ℕ, zero, suc, ◌+◌, true, List, Option, Some, refl, sym, ap, subst, ◌∙◌, arith, add-one}
+use Rattle.std.proofs.Common.{◌≡◌, ℕ, zero, suc, ◌+◌, true, List, Option, sym, ap, subst, ◌∙◌, arith, add-one}
 use Rattle.std.specs.List.{AllByRecursion}
 use Rattle.wse_path.specs.Path.{Path}
-use Rattle.wse_path.specs.Tree.{Entries, content}
+use Rattle.wse_path.specs.Tree.{content}
 use Rattle.wse_path.specs.declared.command.Command.TheVariants as commands
 use Rattle.wse_path.specs.declared.command.Direction.{Direction}
 use Rattle.wse_path.specs.declared.command.Direction.TheVariants.{Back, Forward}
@@ -19,7 +19,7 @@ use Rattle.wse_history.specs.History.{IsHistory}
 use Rattle.wse_history.specs.Moves.{move_outcome}
 use Rattle.wse_history.specs.Step.{step}
 use Rattle.wse_store.specs.Store.{Setting}
-use Rattle.wse_lives.specs.Lives.{came_with, AgreesAt}
+use Rattle.wse_lives.specs.Lives.{came_with}
 use Rattle.wse_lives.specs.Returns.{Returns}
 use Rattle.wse_promise.specs.Fronts.{behind}
 use Rattle.wse_promise.specs.Work.{IsDoneAt, Undoes, GivesBack}

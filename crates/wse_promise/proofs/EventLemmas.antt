@@ -1,5 +1,5 @@
 -- A front of the lines is a life.
-use Rattle.std.proofs.Common.{◌≡◌, ℕ, zero, Bool, true, false, cond, List, [], ◌∷◌, take, Result, Ok, Err, refl, sym, ap, subst, ◌∙◌}
+use Rattle.std.proofs.Common.{◌≡◌, ℕ, true, false, cond, List, [], ◌∷◌, take, Result, Ok, Err, refl, sym, ap, subst, ◌∙◌}
 use Rattle.wse_path.specs.declared.command.Command.{Command}
 use Rattle.wse_element.specs.State.{State}
 use Rattle.wse_json.specs.Commands.{command_in}
@@ -9,7 +9,7 @@ use Rattle.wse_stream.specs.Machine.{state_after}
 use Rattle.wse_store.specs.Store.{Setting, after_command, is_too_long, after_line, serving}
 use Rattle.wse_lives.specs.Events.{Event}
 use Rattle.wse_lives.specs.After.{left_after, IsLived}
-use Rattle.wse_promise.specs.Fronts.{behind, with_command, with_line, with_lines, events_of}
+use Rattle.wse_promise.specs.Fronts.{behind, with_command, with_line, with_lines}
 use Rattle.wse_promise.specs.Laws.{LinesAreEvents}
 use Rattle.wse_promise.proofs.NextLemmas.{sound_at}
 use Rattle.wse_promise.proofs.LineLemmas.{front_next, front_begins}
