@@ -58,16 +58,16 @@ module _ (root : Parts) (limits : Limits) (max_input : ℕ) (left : Option (List
       → Runs (machine_of root limits) first max_input (scene left pieces middle) now (ending_of end) → ((lines : List (List ℕ)) → KeepsWork (setting_of root limits) first lines) → IsServedEnd max_input end
       → RunsStore root adopt limits max_input (scene left pieces (disk_told moment told)) now end
   served adopt moment None middle now first end counts later opened during still unlocked linked fits adopts runs work is =
-      Served first first (record { is_first = λ t. absurd t; unlocked = unlocked; linked = linked; fits = fits; adopts = adopts })
-      (runs_from (machine_of root limits) first first left pieces max_input (disk_told moment None) middle now (ending_of end) counts later tt (λ t. absurd t) still runs) (work (lines_of max_input runs.taken runs.over)) is
+      let from = runs_from (machine_of root limits) first first left pieces max_input (disk_told moment None) middle now (ending_of end) counts later tt (λ t. absurd t) still runs in
+      Served first first (record { is_first = λ t. absurd t; unlocked = unlocked; linked = linked; fits = fits; adopts = adopts }) from (work (lines_of max_input from.taken from.over)) is
   served false moment (Some d) middle now first end counts later opened during still unlocked linked fits adopts runs work is =
-      Served first first (record { is_first = λ t. refl; unlocked = unlocked; linked = linked; fits = fits; adopts = adopts })
-      (runs_from (machine_of root limits) first first left pieces max_input (disk_told moment (Some d)) middle now (ending_of end) counts later opened
-      (λ t. weaker (Some d) middle.told _ _ (plain moment (Some d) first) (during first opened)) still runs) (work (lines_of max_input runs.taken runs.over)) is
+      let from = runs_from (machine_of root limits) first first left pieces max_input (disk_told moment (Some d)) middle now (ending_of end) counts later opened
+      (λ t. weaker (Some d) middle.told _ _ (plain moment (Some d) first) (during first opened)) still runs in
+      Served first first (record { is_first = λ t. refl; unlocked = unlocked; linked = linked; fits = fits; adopts = adopts }) from (work (lines_of max_input from.taken from.over)) is
   served true moment (Some d) middle now first end counts later opened during still unlocked linked fits adopts runs work is =
-      Served opened.0 first (record { is_first = λ t. opened.2; unlocked = unlocked; linked = linked; fits = fits; adopts = adopts })
-      (runs_from (machine_of root limits) opened.0 first left pieces max_input (disk_told moment (Some d)) middle now (ending_of end) counts later opened.1
-      (λ t. weaker (Some d) middle.told _ _ (λ image may. adopting moment (Some d) opened.0 first image opened.2 may) (during opened.0 opened.1)) still runs) (work (lines_of max_input runs.taken runs.over)) is
+      let from = runs_from (machine_of root limits) opened.0 first left pieces max_input (disk_told moment (Some d)) middle now (ending_of end) counts later opened.1
+      (λ t. weaker (Some d) middle.told _ _ (λ image may. adopting moment (Some d) opened.0 first image opened.2 may) (during opened.0 opened.1)) still runs in
+      Served opened.0 first (record { is_first = λ t. opened.2; unlocked = unlocked; linked = linked; fits = fits; adopts = adopts }) from (work (lines_of max_input from.taken from.over)) is
 
   -- what an opening that is no more than begun may leave
   may_become : (adopt : Bool) (moment : ℕ) (told : Option Standing) (s : State) (image : Reading) → MayLeave told image ⊎ StandsForOpened adopt s image
