@@ -371,16 +371,16 @@ module _ (limits : Limits) (s : State) (set : IsHistory s limits) (by : ℕ) (pa
   pub m : Moving limits s Back note r.id o
   m = first_moving limits s by Back path choice note r.id versions set (ruling Back s.records s.locks by path choice) refl done
 
-  found_h : record_of m.h.records r.id ≡ Some r
+  pub found_h : record_of m.h.records r.id ≡ Some r
   found_h = ap (λ rs. record_of rs r.id) m.among ∙ found
 
   parts : AreParts r.parts
   parts = parts_of_found m.h.records r.id r m.linked.parts found_h
 
-  may : MayGo Back m.h.records r
+  pub may : MayGo Back m.h.records r
   may = may_go_is Back m.h r.id r m.linked parts found_h m.may
 
-  undo : MayGoBack m.h.records r
+  pub undo : MayGoBack m.h.records r
   undo = record { parts = parts; whole = may.whole; closest = may.closest_at }
 
   abbrev effects : List Effect
@@ -398,13 +398,13 @@ module _ (limits : Limits) (s : State) (set : IsHistory s limits) (by : ℕ) (pa
   paths_are : m.paths ≡ all_paths r
   paths_are = m.named ∙ ap (λ (q : Option Record). option_map_or all_paths q []) found_h
 
-  x_records : x.records ≡ marked m.h.records r.id false
+  pub x_records : x.records ≡ marked m.h.records r.id false
   x_records =
       ap (λ (k : StacksState). k.records) (after_behind (now s) m.before (MoveBack r.id ∷ bump_each m.paths))
       ∙ ap (λ k. (after_each k (MoveBack r.id ∷ bump_each m.paths)).records) m.here
       ∙ records_bumps (after m.h (MoveBack r.id)) m.paths
 
-  x_files : x.files ≡ set_files (old_contents r) s.files
+  pub x_files : x.files ≡ set_files (old_contents r) s.files
   x_files =
       ap (λ (y : State). y.files) (sym next_is)
       ∙ moved_files limits s Back note r.id o m
@@ -415,6 +415,16 @@ module _ (limits : Limits) (s : State) (set : IsHistory s limits) (by : ℕ) (pa
       versions_behind s.versions m.before (MoveBack r.id ∷ bump_each m.paths)
       ∙ ap (λ vs. versions_after_each vs (bump_each m.paths)) (m.versions_still s.versions)
       ∙ ap (λ ps. versions_after_each s.versions (bump_each ps)) paths_are
+
+  pub found_x : record_of x.records r.id ≡ Some (with_done r false)
+  found_x = ap (λ rs. record_of rs r.id) x_records ∙ found_marked m.h.records r.id false ∙ ap (option_map (λ q. with_done q false)) found_h
+
+  -- a redo of it leaves the tree that the undo found
+  pub tree_again : set_files (new_contents r) (set_files (old_contents r) s.files) ≡ s.files
+  tree_again =
+      let both : Entries = set_files (new_contents r) (set_files (old_contents r) s.files) in
+      same_trees both s.files (sorted_set_files (new_contents r) (set_files (old_contents r) s.files) (sorted_set_files (old_contents r) s.files set.linked.tree.rises)) set.linked.tree.rises
+      (λ p. redo_gives_back s.files m.h.records r undo p (m.tree p))
 
   x_known : known_hit limits x ≡ None
   x_known =
@@ -436,9 +446,6 @@ module _ (limits : Limits) (s : State) (set : IsHistory s limits) (by : ℕ) (pa
     rule : ruling Forward x.records x.locks again_by at again_choice ≡ rulings.Go r.id
     rule = ap (λ rs. ruling Forward rs x.locks again_by at again_choice) x_records ∙ goes_again m.h r m.linked found_h may x.locks again_by free at again_choice live
 
-    found_x : record_of x.records r.id ≡ Some (with_done r false)
-    found_x = ap (λ rs. record_of rs r.id) x_records ∙ found_marked m.h.records r.id false ∙ ap (option_map (λ q. with_done q false)) found_h
-
     abbrev redone : List Effect
     redone = MoveForward r.id ∷ bump_each (all_paths r)
 
@@ -451,11 +458,9 @@ module _ (limits : Limits) (s : State) (set : IsHistory s limits) (by : ℕ) (pa
     y_files : y.files ≡ s.files
     y_files =
         let sets = sets_contents Forward x.records r.id (with_done r false) found_x in
-        let both : Entries = set_files (new_contents r) (set_files (old_contents r) s.files) in
         files_bumps (after (stacks_of (kept_of x)) (MoveForward r.id)) (all_paths r) (set_files (contents_set x.records (MoveForward r.id)) x.files)
         ∙ (λ i. set_files (sets i) (x_files i))
-        ∙ same_trees both s.files (sorted_set_files (new_contents r) (set_files (old_contents r) s.files) (sorted_set_files (old_contents r) s.files set.linked.tree.rises)) set.linked.tree.rises
-        (λ p. redo_gives_back s.files m.h.records r undo p (m.tree p))
+        ∙ tree_again
 
     y_records : y.records ≡ moved_among s note
     y_records =

@@ -20,7 +20,7 @@ use Rattle.wse_lives.specs.Lives.{Life, lived, trees_of, Agrees, AgreesAt, IsMad
 use Rattle.wse_lives.proofs.StayLemmas.{SaysSame, Pushes, holds_after_each}
 
 -- the same contents and the same origin agree alike
-agrees_same : (start : State) (life : Life) (p : Path) (r s : Record) → SaysSame p r s → AgreesAt start life p r → AgreesAt start life p s
+pub agrees_same : (start : State) (life : Life) (p : Path) (r s : Record) → SaysSame p r s → AgreesAt start life p r → AgreesAt start life p s
 agrees_same start life p r s same h =
     subst (λ n. Agrees (trees_of start life n) p (old_at p s) (new_at p s)) (sym same.origin)
     (subst (λ c. Agrees (trees_of start life r.origin) p c (new_at p s)) (sym same.old) (subst (λ c. Agrees (trees_of start life r.origin) p (old_at p r) c) (sym same.new) h))

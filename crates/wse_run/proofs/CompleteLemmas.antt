@@ -48,20 +48,20 @@ module _ (root : Parts) (adopt : Bool) (limits : Limits) (max_input : ℕ) (befo
     complete Write causes run = absurd (calm.sink causes.sink.1)
     complete Disk causes run = absurd (calm.disk causes.disk.1)
     complete Memory causes run = inr refl
-    complete (NotAStore at) causes (Served opened first begins r is) = absurd is
+    complete (NotAStore at) causes (Served opened first begins r work is) = absurd is
     complete (NotAStore at) causes (Refused unread why) = absurd (no_store at why.0)
     complete (NotAStore at) causes (Failed unread is) = cc
     complete (NotAStore at) causes (Starved unread is) = cc
-    complete (TooBig hit) causes (Served opened first begins r is) = absurd is
+    complete (TooBig hit) causes (Served opened first begins r work is) = absurd is
     complete (TooBig hit) causes (Refused unread why) = absurd (passes_none hit why)
     complete (TooBig hit) causes (Failed unread is) = cc
     complete (TooBig hit) causes (Starved unread is) = cc
-    complete (InputLimit limit) causes (Served opened first begins r is) =
+    complete (InputLimit limit) causes (Served opened first begins r work is) =
         absurd (too_many max_input before.left now.left calm.short.0 r.taken calm.short.1 calm.short.2 r.takes (r.passed refl).0)
     complete (InputLimit limit) causes (Refused unread why) = absurd why
     complete (InputLimit limit) causes (Failed unread is) = cc
     complete (InputLimit limit) causes (Starved unread is) = cc
-    complete (Differs p) causes (Served opened first begins r is) = absurd is
+    complete (Differs p) causes (Served opened first begins r work is) = absurd is
     complete (Differs p) causes (Refused unread why) = absurd (no_dispute p why)
     complete (Differs p) causes (Failed unread is) = cc
     complete (Differs p) causes (Starved unread is) = cc

@@ -14,7 +14,7 @@ use Rattle.wse_run.proofs.OpeningLemmas.{disk_told}
 
 module _ (root : Parts) (adopt : Bool) (limits : Limits) (max_input : ℕ) (left : Option (List ℕ)) (pieces : Option (List Piece)) (now : Scene) (end : RunEnd) where
   untold : (old mid : ℕ) → old ≤ mid → RunsStore root adopt limits max_input (scene left pieces (disk_told mid None)) now end → RunsStore root adopt limits max_input (scene left pieces (disk_told old None)) now end
-  untold old mid le (Served opened first begins r is) =
+  untold old mid le (Served opened first begins r work is) =
       Served opened first begins (record {
         is_opened = tt;
         taken = r.taken;
@@ -32,7 +32,7 @@ module _ (root : Parts) (adopt : Bool) (limits : Limits) (max_input : ℕ) (left
         only_passed = r.only_passed;
         never_more = r.never_more;
         moments = λ t. absurd t;
-      }) is
+      }) work is
   untold old mid le (Refused unread why) = Refused (record { source = unread.source; sink = unread.sink; later = omega (arith, le, unread.later); images = λ t. absurd t }) why
   untold old mid le (Failed unread is) = Failed (record { source = unread.source; sink = unread.sink; later = omega (arith, le, unread.later); images = λ t. absurd t }) is
   untold old mid le (Starved unread is) = Starved (record { source = unread.source; sink = unread.sink; later = omega (arith, le, unread.later); images = λ t. absurd t }) is

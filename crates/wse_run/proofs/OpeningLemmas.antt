@@ -17,15 +17,16 @@ use Rattle.wse_recover.specs.Adopting.{IsAdopted}
 use Rattle.wse_recover.specs.Open.{IsOpened, StandsForOpened, AdoptsWithin}
 use Rattle.wse_stream.specs.Opened.{IsEarlier, AtStart, AsOpened, RunsFrom}
 use Rattle.wse_stream.specs.Rests.{StaysTold}
-use Rattle.wse_stream.specs.Runs.{Ending, Runs}
+use Rattle.wse_stream.specs.Runs.{Ending, Runs, lines_of}
 use Rattle.wse_stream.specs.Scene.{DiskAt, Scene, disk_at, scene}
 use Rattle.wse_stream.proofs.MomentLemmas.{stretch_since}
 use Rattle.wse_stream.proofs.OpenedLemmas.{runs_from}
 use Rattle.wse_store.specs.Store.{serving}
+use Rattle.wse_promise.specs.Work.{KeepsWork}
 use Rattle.wse_engine.specs.Engine.{EngineNow}
 use Rattle.wse_run.specs.End.{ending_of, IsServedEnd}
 use Rattle.wse_run.specs.Opening.{Begins, MayAdopt, Unread}
-use Rattle.wse_run.specs.Run.{machine_of, RunsStore, Served}
+use Rattle.wse_run.specs.Run.{setting_of, machine_of, RunsStore, Served}
 use Rattle.wse_run.specs.declared.end.RunEnd.{RunEnd}
 use Rattle.wse_run.proofs.AdoptLemmas.{adopted_once}
 
@@ -54,19 +55,19 @@ module _ (root : Parts) (limits : Limits) (max_input : ℕ) (left : Option (List
   pub served : (adopt : Bool) (moment : ℕ) (told : Option Standing) (middle : DiskAt) (now : Scene) (first : State) (end : RunEnd)
       → CountsMoments told moment → moment ≤ middle.moment → WhereTold told (λ t. IsOpened adopt first t.reading) → Leaves adopt told middle.told → StaysTold told middle.told
       → first.locks ≡ [] → IsStateLinked first → limit_hit limits first.files ≡ None → WhereTold told (λ t. AdoptsWithin limits first t.reading)
-      → Runs (machine_of root limits) first max_input (scene left pieces middle) now (ending_of end) → IsServedEnd max_input end
+      → Runs (machine_of root limits) first max_input (scene left pieces middle) now (ending_of end) → ((lines : List (List ℕ)) → KeepsWork (setting_of root limits) first lines) → IsServedEnd max_input end
       → RunsStore root adopt limits max_input (scene left pieces (disk_told moment told)) now end
-  served adopt moment None middle now first end counts later opened during still unlocked linked fits adopts runs is =
-      Served first first (record { is_first = λ t. absurd t; unlocked = unlocked; linked = linked; fits = fits; adopts = adopts })
-      (runs_from (machine_of root limits) first first left pieces max_input (disk_told moment None) middle now (ending_of end) counts later tt (λ t. absurd t) still runs) is
-  served false moment (Some d) middle now first end counts later opened during still unlocked linked fits adopts runs is =
-      Served first first (record { is_first = λ t. refl; unlocked = unlocked; linked = linked; fits = fits; adopts = adopts })
-      (runs_from (machine_of root limits) first first left pieces max_input (disk_told moment (Some d)) middle now (ending_of end) counts later opened
-      (λ t. weaker (Some d) middle.told _ _ (plain moment (Some d) first) (during first opened)) still runs) is
-  served true moment (Some d) middle now first end counts later opened during still unlocked linked fits adopts runs is =
-      Served opened.0 first (record { is_first = λ t. opened.2; unlocked = unlocked; linked = linked; fits = fits; adopts = adopts })
-      (runs_from (machine_of root limits) opened.0 first left pieces max_input (disk_told moment (Some d)) middle now (ending_of end) counts later opened.1
-      (λ t. weaker (Some d) middle.told _ _ (λ image may. adopting moment (Some d) opened.0 first image opened.2 may) (during opened.0 opened.1)) still runs) is
+  served adopt moment None middle now first end counts later opened during still unlocked linked fits adopts runs work is =
+      let from = runs_from (machine_of root limits) first first left pieces max_input (disk_told moment None) middle now (ending_of end) counts later tt (λ t. absurd t) still runs in
+      Served first first (record { is_first = λ t. absurd t; unlocked = unlocked; linked = linked; fits = fits; adopts = adopts }) from (work (lines_of max_input from.taken from.over)) is
+  served false moment (Some d) middle now first end counts later opened during still unlocked linked fits adopts runs work is =
+      let from = runs_from (machine_of root limits) first first left pieces max_input (disk_told moment (Some d)) middle now (ending_of end) counts later opened
+      (λ t. weaker (Some d) middle.told _ _ (plain moment (Some d) first) (during first opened)) still runs in
+      Served first first (record { is_first = λ t. refl; unlocked = unlocked; linked = linked; fits = fits; adopts = adopts }) from (work (lines_of max_input from.taken from.over)) is
+  served true moment (Some d) middle now first end counts later opened during still unlocked linked fits adopts runs work is =
+      let from = runs_from (machine_of root limits) opened.0 first left pieces max_input (disk_told moment (Some d)) middle now (ending_of end) counts later opened.1
+      (λ t. weaker (Some d) middle.told _ _ (λ image may. adopting moment (Some d) opened.0 first image opened.2 may) (during opened.0 opened.1)) still runs in
+      Served opened.0 first (record { is_first = λ t. opened.2; unlocked = unlocked; linked = linked; fits = fits; adopts = adopts }) from (work (lines_of max_input from.taken from.over)) is
 
   -- what an opening that is no more than begun may leave
   may_become : (adopt : Bool) (moment : ℕ) (told : Option Standing) (s : State) (image : Reading) → MayLeave told image ⊎ StandsForOpened adopt s image

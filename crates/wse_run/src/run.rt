@@ -1,5 +1,5 @@
 // A store is opened, and the lines of a source are answered.
-ghost use Rattle.std.specs.Prelude.{◌≡◌, ◌≤◌, ◌^◌, true, Some};
+ghost use Rattle.std.specs.Prelude.{◌≡◌, ℕ, ◌≤◌, ◌^◌, List, true, Some};
 ghost use Rattle.wse_path.specs.Limits.{standard};
 ghost use Rattle.wse_apply.specs.Limit.{are_within};
 ghost use Rattle.wse_disk.specs.Standing.{Standing};
@@ -7,10 +7,11 @@ ghost use Rattle.wse_uri.specs.FileUrl.{IsPlainFileUrl};
 ghost use Rattle.wse_stream.specs.Runs.{HasCauses};
 ghost use Rattle.wse_stream.specs.Scene.{disk_at, scene, faults};
 ghost use Rattle.wse_recover.specs.Open.{disk_of_fault};
+ghost use Rattle.wse_promise.specs.Work.{KeepsWork};
 ghost use Rattle.wse_run.specs.Complete.{IsOpenable, IsCalm, IsDoneOrStarved};
 ghost use Rattle.wse_run.specs.End.{ending_of};
 ghost use Rattle.wse_run.specs.Fault.{end_of_fault};
-ghost use Rattle.wse_run.specs.Run.{RunsStore};
+ghost use Rattle.wse_run.specs.Run.{setting_of, RunsStore};
 
 use crate::end::{RunEnd, end_of_served};
 use std::alloc::Global;
@@ -73,6 +74,14 @@ fn unopened<D: Disk>(fault: OpenFault<D>) -> RanStore<D>
     }
 }
 
+/// Tells of the lines that come behind the engine: no undo among them destroys work which its element didn't make. Does nothing
+/// at run time.
+fn kept<D: Disk>(engine: &Engine<D>, root: &Url)
+    ensures { (lines : List (List ℕ)) → KeepsWork (setting_of root.now engine.now.limits) engine.now.state lines }
+{
+    let _ = engine.history().limits();
+}
+
 /// Opens the store on the disk, and answers the lines of the source, to its end or to the first fault.
 ///
 /// - What is emitted is a front of the answers of the store's machine from the state in which the run begins, and all of them
@@ -80,6 +89,9 @@ fn unopened<D: Disk>(fault: OpenFault<D>) -> RanStore<D>
 /// - A crash at any moment leaves what stands for the state after a front of the lines to which all that was out by then are
 ///   answers. Before the first piece it may also be what a crash might have left at the start, or what stands for the state
 ///   for which the disk was opened.
+/// - Where a line is answered as done of an element by undo, and a line of this run made the element's origin, the undo found
+///   at the element's paths what that line left, leaves there what that line found, and leaves every other path. A redo of it on
+///   the next line leaves the tree that the undo found.
 /// - A store that isn't opened says exactly why, and no line is read. Nothing is adopted then, unless the disk failed.
 /// - No count of faults falls, and only that of what failed rose.
 /// - Where nothing fails, none of the causes for a refusal holds and the source has no more bytes than may be read, all is
@@ -118,6 +130,7 @@ pub fn run_store<D: Disk, S: Source, K: Sink>(
         Ok(engine) => engine,
         Err(fault) => return unopened(fault),
     };
+    kept(&engine, &root);
     let server = server_of(engine, root);
     let Served { disk, end } = serve(alloc, server, source, out, max_input);
     RanStore {

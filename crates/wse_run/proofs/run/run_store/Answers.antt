@@ -1,11 +1,13 @@
-use Rattle.std.proofs.Common.{◌≡◌, sym, ap, subst, ◌∙◌}
+use Rattle.std.proofs.Common.{◌≡◌, ℕ, List, sym, ap, subst, ◌∙◌}
+use Rattle.wse_path.specs.declared.limits.Limits.{Limits}
 use Rattle.wse_stream.specs.Runs.{Ending, Runs, HasCauses}
 use Rattle.wse_stream.specs.Scene.{disk_at, scene, faults}
 use Rattle.wse_server.specs.Serving.{ending_of as ending_of_serving}
 use Rattle.wse_recover.specs.Open.{disk_of_fault, fault_may_adopt}
 use Rattle.wse_engine.specs.Engine.{EngineNow}
+use Rattle.wse_promise.specs.Work.{KeepsWork}
 use Rattle.wse_run.specs.End.{ending_of, end_of_served}
-use Rattle.wse_run.specs.Run.{machine_of, RunsStore}
+use Rattle.wse_run.specs.Run.{setting_of, machine_of, RunsStore}
 use Rattle.wse_run.specs.declared.end.RunEnd.{RunEnd}
 use Rattle.wse_run.proofs.CompleteLemmas.{complete}
 use Rattle.wse_run.proofs.OpeningLemmas.{served, unread, runs_of}
@@ -45,6 +47,7 @@ returns-clause-run g c =
     (g.met.D.Disk.counts_moments c.args.disk) start.later start.opened start.during start.tells.on start.unlocked start.linked start.fits start.adopts
     (subst (λ (e : Ending). Runs (machine_of run.root run.limits) engine.state run.max_input (scene left pieces (disk_at moment_of told engine.disk)) now e) (ending_served run.max_input end)
     (runs_of moment_of told left pieces run.max_input now (ending_of_serving end) run.root c.server_of-server.result.root engine c.server_of-server.result.engine run.limits c.server_of-server.ensures.root c.server_of-server.ensures.engine start.limits c.serve-disk.ensures.run))
+    (subst (λ (l : Limits). (lines : List (List ℕ)) → KeepsWork (setting_of run.root l) engine.state lines) start.limits c.kept.ensures)
     (is_served run.max_input end))
 
 pub returns-clause-causes : goal.returns-clause-causes
