@@ -1,0 +1,1 @@
+-- Entries put one after another.

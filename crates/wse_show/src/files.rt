@@ -1,0 +1,95 @@
+// The paths of a store, one a line.
+ghost use Rattle.std.specs.Prelude.{◌≡◌, ◌++◌, length, option_map, IfOk, OnOk};
+ghost use Rattle.std.specs.Option.{option_copied};
+ghost use Rattle.serde_json.specs.View.{view};
+ghost use Rattle.wse_path.specs.PathMap.{put_each};
+ghost use Rattle.wse_show.specs.Files.{with_versions, numbered, file_data, files_text};
+
+use crate::line::push_line;
+use serde_json::{Value, json};
+use std::alloc::Global;
+use wse_path::{Duplicate, Memory, PathMap, RelPath, Tree, Versions};
+
+/// How many bytes there are, if the content is there.
+fn len_of(content: Option<&[u8]>) -> Option<usize>
+    ensures { result ≡ option_map length (option_copied content.entry) }
+{
+    match content {
+        Some(bytes) => Some(bytes.len()),
+        None => None,
+    }
+}
+
+/// What is told of a path.
+fn file_value(
+    alloc: Global,
+    bytes: Option<usize>,
+    path: &RelPath,
+    version: u32,
+) -> Result<Value, Memory>
+    ensures { IfOk result (λ value. view value ≡ file_data bytes path.now version) }
+{
+    let path = path.text(alloc)?.into_string();
+    let value = json!(in alloc; {"bytes": bytes, "path": path, "version": version})?;
+    Ok(value)
+}
+
+/// Puts each file with its version.
+fn put_files(
+    alloc: Global,
+    rows: &mut PathMap<u32>,
+    tree: &Tree,
+    versions: &Versions,
+) -> Result<(), Memory>
+    ensures { OnOk result (rows.new.entries
+        ≡ put_each (with_versions versions.now.entries tree.now.files) rows.old.entries) }
+{
+    for index in 0..tree.count() {
+        let (path, _) = tree.file_at(index);
+        rows.put(path.duplicate(alloc)?, versions.get(path))?;
+    }
+    Ok(())
+}
+
+/// Puts each version.
+fn put_versions(
+    alloc: Global,
+    rows: &mut PathMap<u32>,
+    versions: &Versions,
+) -> Result<(), Memory>
+    ensures { OnOk result (rows.new.entries ≡ put_each versions.now.entries rows.old.entries) }
+{
+    for index in 0..versions.count() {
+        if let (Some(path), Some(number)) = (versions.path_at(index), versions.number_at(index)) {
+            rows.put(path.duplicate(alloc)?, number)?;
+        }
+    }
+    Ok(())
+}
+
+/// Each path that is a file or has a version entry, with its version.
+fn numbered(alloc: Global, tree: &Tree, versions: &Versions) -> Result<PathMap<u32>, Memory>
+    ensures { IfOk result (λ rows. rows.entries ≡ numbered tree.now.files versions.now.entries) }
+{
+    let mut rows = PathMap::new(alloc);
+    put_versions(alloc, &mut rows, versions)?;
+    put_files(alloc, &mut rows, tree, versions)?;
+    Ok(rows)
+}
+
+/// Appends a line for each path that is a file or has a version entry, in path order.
+pub fn push_files(
+    alloc: Global,
+    text: &mut Vec<u8>,
+    tree: &Tree,
+    versions: &Versions,
+) -> Result<(), Memory>
+    ensures { OnOk result (text.new.items ≡ text.old.items ++ files_text tree.now.files versions.now.entries) }
+{
+    let rows = numbered(alloc, tree, versions)?;
+    for (path, version) in rows.as_slice() {
+        let value = file_value(alloc, len_of(tree.get(path)), path, *version)?;
+        push_line(alloc, text, &value)?;
+    }
+    Ok(())
+}

@@ -1,0 +1,6 @@
+// What a store holds, as lines of JSON.
+#![tactic(auto)]
+
+mod elements;
+mod files;
+mod line;
