@@ -1,5 +1,5 @@
 -- The paths of a store, as JSON with the members in byte order of their names. This project's own rule.
-use Rattle.std.specs.Prelude.{ℕ, List, map, length, codes, Option, Some, None, option_map}
+use Rattle.std.specs.Prelude.{ℕ, List, [], ◌++◌, map, length, codes, Option, Some, None, option_map}
 use Rattle.std.specs.List.{flat_map}
 use Rattle.serde_json.specs.Data.{Data, no_members, member, object, null, number, string, unsigned}
 use Rattle.wse_path.specs.Path.{Path, text_of}
@@ -14,7 +14,7 @@ with_versions versions files = map (λ e. (e.0, version_of versions e.0)) files
 
 -- Each path that is a file or has a version entry, with its version, in path order.
 abbrev pub numbered : Entries → Numbers → Numbers
-numbered files versions = put_each (with_versions versions files) versions
+numbered files versions = put_each (versions ++ with_versions versions files) []
 
 -- How many bytes the file has, or null where there is none.
 abbrev pub bytes_data : Option ℕ → Data

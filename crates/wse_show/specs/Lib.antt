@@ -1,3 +1,4 @@
 pub mod Elements
 pub mod Files
 pub mod Line
+pub mod Show

@@ -1,9 +1,9 @@
 // The paths of a store, one a line.
-ghost use Rattle.std.specs.Prelude.{◌≡◌, ◌++◌, length, option_map, IfOk, OnOk};
+ghost use Rattle.std.specs.Prelude.{◌≡◌, ◌<◌, ◌++◌, Some, length, option_map, slice_get, IfOk, OnOk};
 ghost use Rattle.std.specs.Option.{option_copied};
 ghost use Rattle.serde_json.specs.View.{view};
 ghost use Rattle.wse_path.specs.PathMap.{put_each};
-ghost use Rattle.wse_show.specs.Files.{with_versions, numbered, file_data, files_text};
+ghost use Rattle.wse_show.specs.Files.{with_versions, numbered, file_data, file_line, files_text};
 
 use crate::line::push_line;
 use serde_json::{Value, json};
@@ -51,6 +51,17 @@ fn put_files(
     Ok(())
 }
 
+/// The entry with that index in path order.
+fn entry_at(versions: &Versions, index: usize) -> (&RelPath, u32)
+    requires { index < length versions.now.entries }
+    ensures { slice_get versions.now.entries index ≡ Some (result.0.now, result.1) }
+{
+    match (versions.path_at(index), versions.number_at(index)) {
+        (Some(path), Some(number)) => (path, number),
+        _ => unreachable!(),
+    }
+}
+
 /// Puts each version.
 fn put_versions(
     alloc: Global,
@@ -60,9 +71,8 @@ fn put_versions(
     ensures { OnOk result (rows.new.entries ≡ put_each versions.now.entries rows.old.entries) }
 {
     for index in 0..versions.count() {
-        if let (Some(path), Some(number)) = (versions.path_at(index), versions.number_at(index)) {
-            rows.put(path.duplicate(alloc)?, number)?;
-        }
+        let (path, number) = entry_at(versions, index);
+        rows.put(path.duplicate(alloc)?, number)?;
     }
     Ok(())
 }
@@ -77,6 +87,20 @@ fn numbered(alloc: Global, tree: &Tree, versions: &Versions) -> Result<PathMap<u
     Ok(rows)
 }
 
+/// Appends a path's line.
+fn push_file(
+    alloc: Global,
+    text: &mut Vec<u8>,
+    tree: &Tree,
+    path: &RelPath,
+    version: u32,
+) -> Result<(), Memory>
+    ensures { OnOk result (text.new.items ≡ text.old.items ++ file_line tree.now.files (path.now, version)) }
+{
+    let value = file_value(alloc, len_of(tree.get(path)), path, version)?;
+    push_line(alloc, text, &value)
+}
+
 /// Appends a line for each path that is a file or has a version entry, in path order.
 pub fn push_files(
     alloc: Global,
@@ -87,9 +111,8 @@ pub fn push_files(
     ensures { OnOk result (text.new.items ≡ text.old.items ++ files_text tree.now.files versions.now.entries) }
 {
     let rows = numbered(alloc, tree, versions)?;
-    for (path, version) in rows.as_slice() {
-        let value = file_value(alloc, len_of(tree.get(path)), path, *version)?;
-        push_line(alloc, text, &value)?;
+    for entry in rows.as_slice() {
+        push_file(alloc, text, tree, &entry.0, entry.1)?;
     }
     Ok(())
 }

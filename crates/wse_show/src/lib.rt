@@ -4,3 +4,6 @@
 mod elements;
 mod files;
 mod line;
+mod show;
+
+pub use show::show_text;

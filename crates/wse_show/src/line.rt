@@ -15,6 +15,6 @@ pub fn push_line(alloc: Global, text: &mut Vec<u8>, value: &Value) -> Result<(),
 {
     let mut line = value.to_vec(alloc)?;
     line.push(b'\n')?;
-    text.extend_from_slice(&line)?;
+    text.extend_from_slice(line.as_slice())?;
     Ok(())
 }
