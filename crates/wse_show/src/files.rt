@@ -63,11 +63,7 @@ fn entry_at(versions: &Versions, index: usize) -> (&RelPath, u32)
 }
 
 /// Puts each version.
-fn put_versions(
-    alloc: Global,
-    rows: &mut PathMap<u32>,
-    versions: &Versions,
-) -> Result<(), Memory>
+fn put_versions(alloc: Global, rows: &mut PathMap<u32>, versions: &Versions) -> Result<(), Memory>
     ensures { OnOk result (rows.new.entries ≡ put_each versions.now.entries rows.old.entries) }
 {
     for index in 0..versions.count() {

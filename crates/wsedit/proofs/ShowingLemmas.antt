@@ -12,8 +12,8 @@ use Rattle.wse_disk.specs.Standing.{Standing}
 use Rattle.wse_disk.specs.Told.{WhereTold, MayLeave, IsTold, CountsMoments, reading_of}
 use Rattle.wse_disk.specs.LeavesOnly.{LeavesOnly}
 use Rattle.wse_disk.proofs.Moments.{no_call}
-use Rattle.wse_io.specs.Stream.{Piece}
-use Rattle.wse_io.proofs.StreamLemmas.{within_wider}
+use Rattle.wse_io.specs.Stream.{Piece, Adds, AllAt, IsPrefix, bytes_of}
+use Rattle.wse_io.proofs.StreamLemmas.{within_at, within_wider}
 use Rattle.wse_txn.specs.Command.{IsAt}
 use Rattle.wse_txn.specs.Stands.{StandsFor, IsNoStore}
 use Rattle.wse_txn.proofs.OneState.{stands_for_one}
@@ -52,6 +52,15 @@ pub leaves_untouched : (moment : ℕ) (told : Option Standing) (now : ℕ) (now_
 leaves_untouched moment told now now_told counts same = leaves_shown moment told (disk_told now now_told) counts (λ s stands. no_call told now_told _ same (λ c may. inl may))
 
 -- ---- behind an opening
+
+-- pieces of one moment that are a front of the text
+pub emits_of : (text : List ℕ) (moment : ℕ) (old new : Option (List Piece)) (added : List Piece) → Adds old new added → AllAt moment added → IsPrefix (bytes_of added) text → Emits text moment moment old new
+emits_of text moment old new added adds all front = record { added = added; adds = adds; times = within_at moment moment moment added (omega arith) (omega arith) all; front = front }
+
+-- the same text at the same moment
+pub emitted_of : (text bytes : List ℕ) (moment at : ℕ) (old new : Option (List Piece)) (end : RunEnd) → bytes ≡ text → at ≡ moment → HasEmittedOr bytes at at old new end → HasEmittedOr text moment moment old new end
+emitted_of text bytes moment at old new end is same e =
+    subst (λ (t : List ℕ). HasEmittedOr t moment moment old new end) is (subst (λ (m : ℕ). HasEmittedOr bytes m m old new end) same e)
 
 -- the text came out at a moment between these
 emits_within : (text : List ℕ) (first moment last : ℕ) (old new : Option (List Piece)) → first ≤ moment → moment ≤ last → Emits text moment moment old new → Emits text first last old new

@@ -18,29 +18,31 @@ use wse_run::{RanStore, RunEnd, unopened};
 use wse_show::show_text;
 use wse_words::Places;
 
+/// Emits the text.
+fn emit_text<K: Sink, D: Disk>(out: &mut K, disk: &D, text: &[u8]) -> RunEnd
+    ensures emitted { HasEmittedOr text.now (D.moment_of disk.now) (D.moment_of disk.now) (K.pieces out.old) (K.pieces out.new) result }
+    ensures sink { CountsFault (ending_of result).write (K.faults out.old) (K.faults out.new) }
+{
+    match emit_all(out, disk, text) {
+        Ok(()) => RunEnd::Done,
+        Err(WriteFailed) => RunEnd::Write,
+    }
+}
+
 /// Emits what the engine's store holds. All memory is taken before the first piece.
 fn emit_store<K: Sink, D: Disk>(alloc: Global, engine: &Engine<D>, out: &mut K) -> RunEnd
     ensures emitted { HasEmittedOr (show_text engine.now.state) (D.moment_of engine.now.disk) (D.moment_of engine.now.disk)
         (K.pieces out.old) (K.pieces out.new) result }
     ensures sink { CountsFault (ending_of result).write (K.faults out.old) (K.faults out.new) }
 {
-    let text = match show_text(alloc, engine.history()) {
-        Ok(text) => text,
-        Err(Memory) => return RunEnd::Memory,
-    };
-    match emit_all(out, engine.disk(), text.as_slice()) {
-        Ok(()) => RunEnd::Done,
-        Err(WriteFailed) => RunEnd::Write,
+    match show_text(alloc, engine.history()) {
+        Ok(text) => emit_text(out, engine.disk(), text.as_slice()),
+        Err(Memory) => RunEnd::Memory,
     }
 }
 
 /// Opens the store on the disk without adopting, and emits what it holds.
-fn show_store<K: Sink, D: Disk>(
-    alloc: Global,
-    disk: D,
-    limits: Limits,
-    out: &mut K,
-) -> RanStore<D>
+fn show_store<K: Sink, D: Disk>(alloc: Global, disk: D, limits: Limits, out: &mut K) -> RanStore<D>
     requires { are_within limits standard ≡ true }
     ensures shows { Shows limits (disk_at D.moment_of D.told disk) (disk_at D.moment_of D.told result.disk)
         (K.pieces out.old) (K.pieces out.new) result.end }

@@ -18,8 +18,8 @@ returns-in-Ok-clause-shows g c =
       later = start.later;
       images = leaves_shown (moment_of c.args.disk) (told c.args.disk) (disk_at moment_of told engine.disk) (g.met.D.Disk.counts_moments c.args.disk) start.during;
       shown = shown_opened c.args.limits (disk_at moment_of told c.args.disk) (disk_at moment_of told engine.disk) engine.state _ _ c.emit_store-end.result start.later
-        (opens_of c.args.limits (told c.args.disk) (told engine.disk) engine.area engine.gate engine.state start.opened start.linked start.fits start.stands)
-        c.emit_store-end.ensures.emitted;
+          (opens_of c.args.limits (told c.args.disk) (told engine.disk) engine.area engine.gate engine.state start.opened start.linked start.fits start.stands)
+          c.emit_store-end.ensures.emitted;
     })
 
 pub returns-in-Ok-clause-cause : goal.returns-in-Ok-clause-cause
