@@ -37,20 +37,6 @@ pub put_each-append : {X : Type 0} (xs ys es : List (Path × X)) → put_each (x
 put_each-append [] ys es = refl
 put_each-append (x ∷ xs) ys es = put_each-append xs ys (put path_cmp x.0 x.1 es)
 
--- an entry whose key and value are found
-pub entry_of : {X : Type 0} (es : List (Path × X)) (i : ℕ) (p : Path) (x : X) → slice_get (map (λ e. e.0) es) i ≡ Some p → slice_get (map (λ e. e.1) es) i ≡ Some x → slice_get es i ≡ Some (p, x)
-entry_of es i p x key value = both (slice_get es i) (sym (slice_get-map (λ e. e.0) es i) ∙ key) (sym (slice_get-map (λ e. e.1) es i) ∙ value)
-  where
-    both : (o : Option (Path × X)) → option_map (λ e. e.0) o ≡ Some p → option_map (λ e. e.1) o ≡ Some x → o ≡ Some (p, x)
-    both (Some e) key' value' = λ j. Some (same_Some e.0 p key' j, same_Some e.1 x value' j)
-    both None key' value' = absurd (none-some p key')
-
--- there is something within
-pub none_within : {X Y : Type 0} (f : X → Y) (xs : List X) (i : ℕ) → i < length xs → slice_get (map f xs) i ≡ None → ⊥
-none_within f [] i l h = absurd (omega (arith, l))
-none_within f (x ∷ xs) zero l h = absurd (none-some (f x) (sym h))
-none_within f (x ∷ xs) (suc i) l h = none_within f xs i (omega (arith, l)) h
-
 -- ---- texts one behind the other
 
 -- the text of the next one

@@ -1,9 +1,10 @@
 // The elements of a store, one a line.
-ghost use Rattle.std.specs.Prelude.{◌≡◌, ◌++◌, ◌∷◌, [], map, IfOk, OnOk};
+ghost use Rattle.std.specs.Prelude.{◌≡◌, ◌<◌, ◌++◌, ◌∷◌, [], Some, length, map, slice_get, IfOk, OnOk};
 ghost use Rattle.serde_json.specs.View.{view};
 ghost use Rattle.wse_show.specs.Elements.{state_name, part_data, parts_data, element_data, element_line, elements_text};
 
 use crate::line::push_line;
+use crate::object::Object;
 use serde_json::{Value, json};
 use std::alloc::Global;
 use wse_element::{Element, Part, PartState};
@@ -53,16 +54,14 @@ fn parts_value(alloc: Global, parts: &[Part]) -> Result<Value, Memory>
 fn element_value(alloc: Global, element: &Element) -> Result<Value, Memory>
     ensures { IfOk result (λ value. view value ≡ element_data element.now) }
 {
-    let parts = parts_value(alloc, element.parts())?;
-    let value = json!(in alloc; {
-        "done": element.is_done(),
-        "id": element.id(),
-        "label": element.label().as_str(),
-        "origin": element.origin(),
-        "parts": parts,
-        "splits": element.splits(),
-    })?;
-    Ok(value)
+    let object = Object::new(alloc)
+        .flag("done", element.is_done())?
+        .number("id", element.id())?
+        .text("label", element.label().as_str())?
+        .number("origin", element.origin())?
+        .with("parts", parts_value(alloc, element.parts())?)?
+        .flag("splits", element.splits())?;
+    Ok(object.into_value())
 }
 
 /// Appends an element's line.
@@ -73,14 +72,23 @@ fn push_element(alloc: Global, text: &mut Vec<u8>, element: &Element) -> Result<
     push_line(alloc, text, &value)
 }
 
+/// The element with that index in order of making.
+fn element_at(stacks: &Stacks, index: usize) -> &Element
+    requires { index < length stacks.now.state.records }
+    ensures { slice_get stacks.now.state.records index ≡ Some result.now }
+{
+    match stacks.element_at(index) {
+        Some(element) => element,
+        None => unreachable!(),
+    }
+}
+
 /// Appends a line for each element, in order of making.
 pub fn push_elements(alloc: Global, text: &mut Vec<u8>, stacks: &Stacks) -> Result<(), Memory>
     ensures { OnOk result (text.new.items ≡ text.old.items ++ elements_text stacks.now.state.records) }
 {
     for index in 0..stacks.count() {
-        if let Some(element) = stacks.element_at(index) {
-            push_element(alloc, text, element)?;
-        }
+        push_element(alloc, text, element_at(stacks, index))?;
     }
     Ok(())
 }

@@ -3,10 +3,11 @@ ghost use Rattle.std.specs.Prelude.{◌≡◌, ◌<◌, ◌++◌, Some, length, 
 ghost use Rattle.std.specs.Option.{option_copied};
 ghost use Rattle.serde_json.specs.View.{view};
 ghost use Rattle.wse_path.specs.PathMap.{put_each};
-ghost use Rattle.wse_show.specs.Files.{with_versions, numbered, file_data, file_line, files_text};
+ghost use Rattle.wse_show.specs.Files.{with_versions, numbered, bytes_data, file_data, file_line, files_text};
 
 use crate::line::push_line;
-use serde_json::{Value, json};
+use crate::object::Object;
+use serde_json::Value;
 use std::alloc::Global;
 use wse_path::{Duplicate, Memory, PathMap, RelPath, Tree, Versions};
 
@@ -20,6 +21,16 @@ fn len_of(content: Option<&[u8]>) -> Option<usize>
     }
 }
 
+/// The number of bytes, or null where there is no file.
+fn bytes_value(bytes: Option<usize>) -> Value
+    ensures { view result ≡ bytes_data bytes }
+{
+    match bytes {
+        Some(bytes) => Value::from(bytes),
+        None => Value::Null,
+    }
+}
+
 /// What is told of a path.
 fn file_value(
     alloc: Global,
@@ -29,9 +40,11 @@ fn file_value(
 ) -> Result<Value, Memory>
     ensures { IfOk result (λ value. view value ≡ file_data bytes path.now version) }
 {
-    let path = path.text(alloc)?.into_string();
-    let value = json!(in alloc; {"bytes": bytes, "path": path, "version": version})?;
-    Ok(value)
+    let object = Object::new(alloc)
+        .with("bytes", bytes_value(bytes))?
+        .text("path", path.text(alloc)?.as_str())?
+        .number("version", u64::from(version))?;
+    Ok(object.into_value())
 }
 
 /// Puts each file with its version.

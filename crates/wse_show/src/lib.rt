@@ -4,6 +4,7 @@
 mod elements;
 mod files;
 mod line;
+mod object;
 mod show;
 
 pub use show::show_text;
