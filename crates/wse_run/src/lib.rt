@@ -5,4 +5,4 @@ mod end;
 mod run;
 
 pub use end::RunEnd;
-pub use run::{RanStore, StoreRun, run_store};
+pub use run::{RanStore, StoreRun, run_store, unopened};

@@ -43,7 +43,7 @@ pub struct RanStore<D: Disk> {
 }
 
 /// The end of a run whose store wasn't opened.
-fn unopened<D: Disk>(fault: OpenFault<D>) -> RanStore<D>
+pub fn unopened<D: Disk>(fault: OpenFault<D>) -> RanStore<D>
     ensures end { result.end ≡ end_of_fault fault }
     ensures disk { result.disk ≡ disk_of_fault fault }
 {

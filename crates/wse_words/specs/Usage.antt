@@ -6,3 +6,4 @@ abbrev pub usage_text : List ℕ
 usage_text =
     codes "usage: wsedit init TREE STORE\n"
     ++ codes "usage: wsedit run TREE STORE ROOT [--adopt] [--max-input N]\n"
+    ++ codes "usage: wsedit show TREE STORE\n"

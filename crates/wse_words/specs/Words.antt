@@ -56,6 +56,7 @@ standard_input = 4294967296
 pub data Asked : Type 0 where
   Init : (tree store : List ℕ) → Asked
   Run : (tree store : List ℕ) (root : Parts) (adopt : Bool) (max_input : ℕ) → Asked
+  Show : (tree store : List ℕ) → Asked
 
 -- What comes behind ROOT: whether differing paths are adopted, and the most bytes of input.
 pub record Options : Type 0 where
@@ -107,4 +108,5 @@ asked_by [] = None
 asked_by (command ∷ words) =
     if bytes_eq command (codes "init") then places_in Init words
     else (if bytes_eq command (codes "run") then run_in words
-    else None)
+    else (if bytes_eq command (codes "show") then places_in Show words
+    else None))

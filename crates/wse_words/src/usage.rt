@@ -7,5 +7,6 @@ pub fn usage_text() -> &'static str
     ensures { result.now ≡ usage_text }
 {
     "usage: wsedit init TREE STORE\n\
-     usage: wsedit run TREE STORE ROOT [--adopt] [--max-input N]\n"
+     usage: wsedit run TREE STORE ROOT [--adopt] [--max-input N]\n\
+     usage: wsedit show TREE STORE\n"
 }

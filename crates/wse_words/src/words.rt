@@ -1,7 +1,7 @@
 // What the words ask for.
 ghost use Rattle.std.specs.Prelude.{◌≡◌, ℕ, List, ◌∷◌, [], IfOk, IfSome, is_some, option_map};
 ghost use Rattle.wse_uri.specs.FileUrl.{IsPlainFileUrl};
-ghost use Rattle.wse_words.specs.Words.{texts_of, are_places, root_of, run_in, places_in, asked_by, Asked, Init, Run};
+ghost use Rattle.wse_words.specs.Words.{texts_of, are_places, root_of, run_in, places_in, asked_by, Asked, Init, Run, Show};
 ghost use Rattle.wse_words.specs.Read.{asked_of, HasPlainRoot};
 
 use crate::behind_root::read_options;
@@ -30,6 +30,8 @@ pub enum Words<'a> {
         root: Url,
         options: Options,
     },
+    /// `show TREE STORE`
+    Show(Places<'a>),
 }
 
 /// TREE and STORE, where they may name the two folders.
@@ -61,6 +63,16 @@ fn read_init(words: &[String]) -> Option<Words<'_>>
 {
     match read_places(words) {
         Some(places) => Some(Words::Init(places)),
+        None => None,
+    }
+}
+
+/// What is behind `show`.
+fn read_show(words: &[String]) -> Option<Words<'_>>
+    ensures { option_map asked_of result ≡ places_in Show (texts_of words.now) }
+{
+    match read_places(words) {
+        Some(places) => Some(Words::Show(places)),
         None => None,
     }
 }
@@ -127,6 +139,8 @@ pub fn read_words(alloc: Global, words: &[String]) -> Result<Option<Words<'_>>, 
         Ok(read_init(more))
     } else if command == "run" {
         read_run(alloc, more)
+    } else if command == "show" {
+        Ok(read_show(more))
     } else {
         Ok(None)
     }

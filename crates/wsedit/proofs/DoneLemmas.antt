@@ -15,7 +15,7 @@ use Rattle.wse_stream.specs.Scene.{Scene, Faults, faults}
 use Rattle.wse_recover.specs.Measure.{TellsHit}
 use Rattle.wse_recover.specs.Start.{start_hit}
 use Rattle.wse_recover.specs.Untouched.{IsUntouched}
-use Rattle.wse_words.specs.Words.{Asked, Init, Run}
+use Rattle.wse_words.specs.Words.{Asked, Init, Run, Show}
 use Rattle.wse_words.specs.Read.{asked_of}
 use Rattle.wse_words.specs.declared.words.Words.{Words as ReadWords}
 use Rattle.wse_words.specs.declared.words.Words.TheVariants as words
@@ -30,9 +30,11 @@ use Rattle.wse_run.proofs.CompleteLemmas.{complete}
 use Rattle.wse_run.proofs.OpeningLemmas.{untouched}
 use Rattle.wsedit.specs.Making.{HasMadeOr, MakesStore}
 use Rattle.wsedit.specs.Program.{Does}
+use Rattle.wsedit.specs.Showing.{ShowsStore}
 use Rattle.wsedit.specs.Status.{code_of, code_of_end, ending_by}
 use Rattle.wsedit.specs.declared.status.Status.{Status}
 use Rattle.wsedit.specs.declared.status.Status.TheVariants.{Words, Ran}
+use Rattle.wsedit.proofs.ShowingLemmas.{leaves_untouched, done_or_starved}
 use Rattle.wsedit.proofs.StatusLemmas.{ending_code}
 
 reads_itself : (told : Option Standing) → Told (λ s t. t.reading ≡ s.reading) told told
@@ -48,6 +50,8 @@ pub no_memory : (limits : Limits) (before : Scene) (asked : Asked) → CountsMom
 no_memory limits before (Init tree store) counts = record { source = refl; sink = refl; later = omega arith; made = untouched_disk before.disk.told }
 no_memory limits before (Run tree store root adopt max_input) counts =
     Starved (untouched root limits max_input before.left before.pieces false before.disk.moment before.disk.told before.disk.moment before.disk.told counts (omega arith) refl) refl
+no_memory limits before (Show tree store) counts =
+    record { source = refl; shows = record { later = omega arith; images = leaves_untouched before.disk.moment before.disk.told before.disk.moment before.disk.told counts refl; shown = refl } }
 
 -- the causes by the number
 pub causes_by : (end : RunEnd) (before now : Faults) → HasCauses (ending_of end) before now → HasCauses (ending_by (code_of_end end)) before now
@@ -73,6 +77,9 @@ makes_words limits before now given places end is made = subst (λ (w : ReadWord
 pub runs_words : (limits : Limits) (before now : Scene) (given : ReadWords) (places : Places) (root : Parts) (o : Options) (end : RunEnd) → given ≡ words.Run places root o → RunsStore root o.adopt limits o.max_input before now end
     → Does limits before now (asked_of given) (Ran end)
 runs_words limits before now given places root o end is runs = subst (λ (w : ReadWords). Does limits before now (asked_of w) (Ran end)) (sym is) runs
+
+pub shows_words : (limits : Limits) (before now : Scene) (given : ReadWords) (places : Places) (end : RunEnd) → given ≡ words.Show places → ShowsStore limits before now end → Does limits before now (asked_of given) (Ran end)
+shows_words limits before now given places end is shows = subst (λ (w : ReadWords). Does limits before now (asked_of w) (Ran end)) (sym is) shows
 
 asked_is : (a b : Asked) → ◌≡◌ {A = Option Asked} (Some a) (Some b) → a ≡ b
 asked_is a b e = cc
@@ -107,3 +114,11 @@ made_by limits before now counts counts' tree store (Ran (TooBig hit)) s told fi
     let hits : start_hit limits s.reading.files ≡ Some hit = subst (λ (t : Option Standing). TellsHit t limits (Some hit)) told does.made.0 in absurd (none_some _ hit fits hits)
 made_by limits before now counts counts' tree store (Ran (InputLimit limit)) s told fits calm causes does = absurd does.made
 made_by limits before now counts counts' tree store (Ran (Differs p)) s told fits calm causes does = absurd does.made
+
+-- a store that can't but be shown
+pub shown_by : (limits : Limits) (before now : Scene) (counts counts' : Faults) (tree store : List ℕ) (end : Status) (s : Standing) → before.disk.told ≡ Some s → IsOpenable false limits s.reading
+    → (Rose counts.sink counts'.sink → ⊥) → (Rose counts.disk counts'.disk → ⊥) → CountFaults (ending_by (code_of end)) counts counts' → Does limits before now (Show tree store) end → (code_of end ≡ 0) ⊎ (code_of end ≡ 6)
+shown_by limits before now counts counts' tree store Words s told is out calm causes does = absurd does
+shown_by limits before now counts counts' tree store (Ran end) s told is out calm causes does =
+    ⊎_elim (λ done. inl (ap code_of_end done)) (λ starved. inr (ap code_of_end starved))
+    (done_or_starved limits before.disk now.disk s told is before.pieces now.pieces counts counts' end out calm (subst (λ (e : Ending). CountFaults e counts counts') (ending_code end) causes) does.shows.shown)

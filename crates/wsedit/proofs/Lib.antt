@@ -1,3 +1,4 @@
 pub mod StatusLemmas
 pub mod PathLemmas
 pub mod DoneLemmas
+pub mod ShowingLemmas

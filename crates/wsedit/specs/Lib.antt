@@ -1,3 +1,4 @@
 pub mod Making
 pub mod Program
+pub mod Showing
 pub mod Status

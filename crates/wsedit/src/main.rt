@@ -5,6 +5,7 @@ mod end;
 mod making;
 mod program;
 mod running;
+mod showing;
 mod status;
 mod telling;
 mod words;

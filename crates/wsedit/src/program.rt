@@ -1,5 +1,5 @@
 // The whole program over any source, sinks and disk.
-ghost use Rattle.std.specs.Prelude.{◌≡◌, ◌⊎◌, ℕ, Bool, true, List, None, Some};
+ghost use Rattle.std.specs.Prelude.{◌≡◌, ◌⊎◌, ℕ, Bool, true, false, List, None, Some};
 ghost use Rattle.url.specs.Parts.{Parts};
 ghost use Rattle.wse_path.specs.Causes.{Rose};
 ghost use Rattle.wse_path.specs.Limits.{standard};
@@ -8,7 +8,7 @@ ghost use Rattle.wse_disk.specs.Standing.{Standing};
 ghost use Rattle.wse_recover.specs.Start.{start_hit};
 ghost use Rattle.wse_stream.specs.Runs.{HasCauses};
 ghost use Rattle.wse_stream.specs.Scene.{disk_at, scene, faults};
-ghost use Rattle.wse_words.specs.Words.{Asked, Init, Run, texts_of, asked_by};
+ghost use Rattle.wse_words.specs.Words.{Asked, Init, Run, Show, texts_of, asked_by};
 ghost use Rattle.wse_words.specs.Read.{asked_of, HasPlainRoot};
 ghost use Rattle.wse_run.specs.Complete.{IsOpenable, IsCalm};
 ghost use Rattle.wse_run.specs.End.{ending_of};
@@ -18,6 +18,7 @@ ghost use Rattle.wsedit.specs.declared.status.Status.TheVariants.{Ran};
 
 use crate::making::place_and_make;
 use crate::running::place_and_run;
+use crate::showing::place_and_show;
 use crate::status::Status;
 use std::alloc::Global;
 use wse_disk::Place;
@@ -67,6 +68,7 @@ fn do_words<S: Source, K: Sink, D: Place>(
             };
             place_and_run(alloc, places, run, source, out, disk)
         }
+        Words::Show(places) => place_and_show(alloc, places, disk, limits, out),
     }
 }
 
@@ -119,7 +121,7 @@ fn run_words<S: Source, K: Sink, D: Place>(
 /// Does what the words ask for, within these limits, and tells of the end at `errs`.
 ///
 /// - Status 0: all was done. For `run` the source was read to its end, every line is answered, and what the disk holds stands
-///   for the last state.
+///   for the last state; for `show` all that the store holds is out.
 /// - Status 2: the words aren't understood. Nothing is touched.
 /// - Status 3, 4, 5: the source, `out` or the disk failed.
 /// - Status 6: there was no memory.
@@ -163,6 +165,10 @@ pub fn run_within<S: Source, K: Sink, E: Sink, D: Place>(
     ensures makes { (tree store : List ℕ) → asked_by (texts_of words.now) ≡ Some (Init tree store)
         → (s : Standing) → D.told disk ≡ Some s → start_hit limits s.reading.files ≡ None
         → (Rose (D.faults disk) (D.faults result.disk) → ⊥) → (result.status ≡ 0) ⊎ (result.status ≡ 6) }
+    ensures shows { (tree store : List ℕ) → asked_by (texts_of words.now) ≡ Some (Show tree store)
+        → (s : Standing) → D.told disk ≡ Some s → IsOpenable false limits s.reading
+        → (Rose (K.faults out.old) (K.faults out.new) → ⊥) → (Rose (D.faults disk) (D.faults result.disk) → ⊥)
+        → (result.status ≡ 0) ⊎ (result.status ≡ 6) }
 {
     let Outcome { status, disk } = run_words(alloc, words, source, out, disk, limits);
     // A fault of errs changes no status.
@@ -204,6 +210,10 @@ pub fn run<S: Source, K: Sink, E: Sink, D: Place>(
     ensures makes { (tree store : List ℕ) → asked_by (texts_of words.now) ≡ Some (Init tree store)
         → (s : Standing) → D.told disk ≡ Some s → start_hit standard s.reading.files ≡ None
         → (Rose (D.faults disk) (D.faults result.disk) → ⊥) → (result.status ≡ 0) ⊎ (result.status ≡ 6) }
+    ensures shows { (tree store : List ℕ) → asked_by (texts_of words.now) ≡ Some (Show tree store)
+        → (s : Standing) → D.told disk ≡ Some s → IsOpenable false standard s.reading
+        → (Rose (K.faults out.old) (K.faults out.new) → ⊥) → (Rose (D.faults disk) (D.faults result.disk) → ⊥)
+        → (result.status ≡ 0) ⊎ (result.status ≡ 6) }
 {
     run_within(alloc, words, source, out, errs, disk, Limits::standard())
 }

@@ -54,6 +54,7 @@ fn ends(alloc: Global, line: &'static str, status: u8, told: &[u8]) -> Result<bo
 const USAGE: &[u8] = b"wsedit: words not understood
 usage: wsedit init TREE STORE
 usage: wsedit run TREE STORE ROOT [--adopt] [--max-input N]
+usage: wsedit show TREE STORE
 ";
 
 #[test]
@@ -62,6 +63,7 @@ fn the_program_ends_with_the_status_of_its_run(rt: HostRuntime) -> Result<(), Fa
     let none = b"wsedit: not a store: byte 0\n".as_slice();
     assert!(rt; ends(alloc, "wsedit init t s", 0, b"")?);
     assert!(rt; ends(alloc, "wsedit run t s file:///w", 7, none)?);
+    assert!(rt; ends(alloc, "wsedit show t s", 7, none)?);
     assert!(rt; ends(alloc, "wsedit run t s", 2, USAGE)?);
     Ok(())
 }

@@ -1,4 +1,6 @@
 // The statuses of runs and their lines at errs, over objects in memory; and where the disk is placed.
+mod shown;
+
 use super::*;
 use std::test::Fail;
 use wse_apply::are_within_standard;
@@ -43,6 +45,7 @@ const NO_VERB: &str = "{\"at\":\"/do\",\"n\":1,\"refused\":\"field\"}\n";
 const UNKNOWN_WORDS: &str = "wsedit: words not understood
 usage: wsedit init TREE STORE
 usage: wsedit run TREE STORE ROOT [--adopt] [--max-input N]
+usage: wsedit show TREE STORE
 ";
 
 /// What a run works on, beside its disk and its input. The call with the number of a `fails` fails; 0 is none.
@@ -152,6 +155,9 @@ run t s w
 run t s file:///w x
 run t s file:///w --max-input 0
 init t t/s
+show t
+show t t/s
+show t s file:///w
 ran t s file:///w
 ";
 
@@ -459,6 +465,7 @@ fn is_not_placed(alloc: Global) -> Result<bool, Fail> {
 fn the_disk_is_placed_once_where_the_words_say(rt: HostRuntime) -> Result<(), Fail> {
     assert!(rt; is_placed_once_as_said(rt.alloc(), GOOD_WORDS)?);
     assert!(rt; is_placed_once_as_said(rt.alloc(), "init t s")?);
+    assert!(rt; is_placed_once_as_said(rt.alloc(), "show t s")?);
     assert!(rt; is_not_placed(rt.alloc())?);
     Ok(())
 }

@@ -1,6 +1,6 @@
 use Rattle.std.proofs.Common.{◌≡◌, ◌⊎◌, sym, subst}
 use Rattle.wsedit.proofs.StatusLemmas.{told_or_rose}
-use Rattle.wsedit.proofs.DoneLemmas.{done_by, made_by}
+use Rattle.wsedit.proofs.DoneLemmas.{done_by, made_by, shown_by}
 use Rattle.wsedit.proofs.program.run_within.Goals as goal
 
 pub returns-clause-ends : goal.returns-clause-ends
@@ -22,3 +22,8 @@ pub returns-clause-makes : goal.returns-clause-makes
 returns-clause-makes g c = λ tree store asked s told fits calm.
     subst (λ n. (n ≡ 0) ⊎ (n ≡ 6)) (sym c.code.ensures)
     (made_by c.args.limits _ _ _ _ tree store c.run_words-status.result.status s told fits calm c.run_words-status.ensures.causes (c.run_words-status.ensures.does _ asked))
+
+pub returns-clause-shows : goal.returns-clause-shows
+returns-clause-shows g c = λ tree store asked s told is out calm.
+    subst (λ n. (n ≡ 0) ⊎ (n ≡ 6)) (sym c.code.ensures)
+    (shown_by c.args.limits _ _ _ _ tree store c.run_words-status.result.status s told is out calm c.run_words-status.ensures.causes (c.run_words-status.ensures.does _ asked))

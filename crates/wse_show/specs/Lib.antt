@@ -1,0 +1,5 @@
+pub mod Elements
+pub mod Files
+pub mod Line
+pub mod Objects
+pub mod Show
