@@ -117,8 +117,8 @@ made_by limits before now counts counts' tree store (Ran (Differs p)) s told fit
 
 -- a store that can't but be shown
 pub shown_by : (limits : Limits) (before now : Scene) (counts counts' : Faults) (tree store : List ℕ) (end : Status) (s : Standing) → before.disk.told ≡ Some s → IsOpenable false limits s.reading
-    → (Rose counts.sink counts'.sink → ⊥) → (Rose counts.disk counts'.disk → ⊥) → CountFaults (ending_by (code_of end)) counts counts' → Does limits before now (Show tree store) end → (code_of end ≡ 0) ⊎ (code_of end ≡ 6)
+    → (Rose counts.sink counts'.sink → ⊥) → (Rose counts.disk counts'.disk → ⊥) → HasCauses (ending_by (code_of end)) counts counts' → Does limits before now (Show tree store) end → (code_of end ≡ 0) ⊎ (code_of end ≡ 6)
 shown_by limits before now counts counts' tree store Words s told is out calm causes does = absurd does
 shown_by limits before now counts counts' tree store (Ran end) s told is out calm causes does =
     ⊎_elim (λ done. inl (ap code_of_end done)) (λ starved. inr (ap code_of_end starved))
-    (done_or_starved limits before.disk now.disk s told is before.pieces now.pieces counts counts' end out calm (subst (λ (e : Ending). CountFaults e counts counts') (ending_code end) causes) does.shows.shown)
+    (done_or_starved limits before.disk now.disk s told is before.pieces now.pieces counts counts' end out calm (subst (λ (e : Ending). HasCauses e counts counts') (ending_code end) causes) does.shows.shown)

@@ -1,5 +1,5 @@
 -- How the showing of a store goes.
-use Rattle.std.proofs.Common.{◌≡◌, ◌⊎◌, inl, inr, ⊎_elim, ℕ, ◌≤◌, true, false, List, Option, Some, None, Err, refl, sym, ap, subst, ◌∙◌, arith}
+use Rattle.std.proofs.Common.{◌≡◌, ◌⊎◌, inl, inr, ⊎_elim, ℕ, ◌≤◌, Bool, true, false, List, Option, Some, None, Err, refl, sym, ap, subst, ◌∙◌, arith}
 use Rattle.wse_path.specs.Causes.{Rose}
 use Rattle.wse_path.specs.declared.limits.Limits.{Limits}
 use Rattle.wse_path.specs.declared.limits.Hit.{Hit}
@@ -18,13 +18,13 @@ use Rattle.wse_txn.specs.Command.{IsAt}
 use Rattle.wse_txn.specs.Stands.{StandsFor, IsNoStore}
 use Rattle.wse_txn.proofs.OneState.{stands_for_one}
 use Rattle.wse_stream.specs.Causes.{CountsFault}
+use Rattle.wse_stream.specs.Runs.{HasCauses}
 use Rattle.wse_stream.specs.Scene.{DiskAt, disk_at, Faults, faults}
 use Rattle.wse_stream.proofs.MomentLemmas.{stretch_since}
-use Rattle.wse_recover.specs.Open.{RefusesOpen, disk_of_fault, IsInTheWay, DiffersFirstAt, IsTooBig, AdoptsTooMuch}
+use Rattle.wse_recover.specs.Open.{RefusesOpen, StandsForOpened, fault_may_adopt, disk_of_fault, IsInTheWay, DiffersFirstAt, IsTooBig, AdoptsTooMuch}
 use Rattle.wse_recover.specs.declared.open.OpenFault.{OpenFault}
 use Rattle.wse_recover.specs.declared.open.OpenFault.TheVariants as opens
 use Rattle.wse_engine.specs.Engine.{IsEngine}
-use Rattle.wse_run.specs.Causes.{RoseWhere, CountFaults}
 use Rattle.wse_run.specs.Complete.{IsOpenable}
 use Rattle.wse_run.specs.End.{ending_of}
 use Rattle.wse_run.specs.Fault.{end_of_fault}
@@ -38,6 +38,19 @@ use Rattle.wsedit.specs.Showing.{Emits, HasEmittedOr, Opens, HasShownOr, LeavesS
 -- what opening without adopting may leave
 abbrev pub Leaves : (start now : Option Standing) → Type 0
 Leaves start now = (s : State) → StandsFor s (reading_of start) → LeavesOnly start now (λ image. MayLeave start image ⊎ StandsFor s image)
+
+-- Opening without adopting adopts nothing, whatever it answers.
+never_adopts : {D : Type 0} (fault : OpenFault D) → fault_may_adopt false fault ≡ false
+never_adopts (opens.Disk disk) = refl
+never_adopts (opens.NotAStore disk at) = refl
+never_adopts (opens.TooBig disk which found) = refl
+never_adopts (opens.Differs disk p) = refl
+never_adopts (opens.Memory disk) = refl
+
+leaves_unadopted : {D : Type 0} (fault : OpenFault D) (start now : Option Standing)
+    → ((s : State) → StandsFor s (reading_of start) → LeavesOnly start now (λ image. MayLeave start image ⊎ StandsForOpened (fault_may_adopt false fault) s image)) → Leaves start now
+leaves_unadopted fault start now during =
+    subst (λ (b : Bool). (s : State) → StandsFor s (reading_of start) → LeavesOnly start now (λ image. MayLeave start image ⊎ StandsForOpened b s image)) (never_adopts fault) during
 
 stands_read : (told : Option Standing) (s : State) → IsTold told → WhereTold told (λ d. StandsFor s d.reading) → StandsFor s (reading_of told)
 stands_read None s t is = absurd t
@@ -87,7 +100,7 @@ opens_of limits old new area gate s stood linked fits is = record { stood = stoo
     reads (Some d) at = (at tt).stands
 
 -- the disk didn't fail
-pub emitted_cause : (text : List ℕ) (first last : ℕ) (pieces pieces' : Option (List Piece)) (end : RunEnd) (before now : ℕ) → HasEmittedOr text first last pieces pieces' end → now ≡ before → RoseWhere (ending_of end).disk before now
+pub emitted_cause : (text : List ℕ) (first last : ℕ) (pieces pieces' : Option (List Piece)) (end : RunEnd) (before now : ℕ) → HasEmittedOr text first last pieces pieces' end → now ≡ before → CountsFault (ending_of end).disk before now
 emitted_cause text first last pieces pieces' Done before now e kept = kept
 emitted_cause text first last pieces pieces' Read before now e kept = absurd e
 emitted_cause text first last pieces pieces' Write before now e kept = kept
@@ -110,13 +123,13 @@ module _ {D : Type 0} (moment_of : D → ℕ) (told : D → Option Standing) (co
 
   -- the end tells why
   pub shown_refused : (fault : OpenFault D) (new : D) (end : RunEnd) → new ≡ disk_of_fault fault → end ≡ end_of_fault fault → CountsMoments (told old) (moment_of old) → moment_of old ≤ moment_of (disk_of_fault fault)
-      → Leaves (told old) (told (disk_of_fault fault)) → RefusesOpen told count false limits old fault → Shows limits (disk_at moment_of told old) (disk_at moment_of told new) pieces pieces end
+      → ((s : State) → StandsFor s (reading_of (told old)) → LeavesOnly (told old) (told (disk_of_fault fault)) (λ image. MayLeave (told old) image ⊎ StandsForOpened (fault_may_adopt false fault) s image)) → RefusesOpen told count false limits old fault → Shows limits (disk_at moment_of told old) (disk_at moment_of told new) pieces pieces end
   shown_refused fault new end disk is counts later during why =
       subst (λ (e : RunEnd). Shows limits (disk_at moment_of told old) (disk_at moment_of told new) pieces pieces e) (sym is)
       (subst (λ (d : D). Shows limits (disk_at moment_of told old) (disk_at moment_of told d) pieces pieces (end_of_fault fault)) (sym disk)
       (record {
         later = later;
-        images = leaves_shown (moment_of old) (told old) (disk_at moment_of told (disk_of_fault fault)) counts during;
+        images = leaves_shown (moment_of old) (told old) (disk_at moment_of told (disk_of_fault fault)) counts (leaves_unadopted fault (told old) (told (disk_of_fault fault)) during);
         shown = by_fault fault why;
       }))
 
@@ -154,7 +167,7 @@ shows_earlier limits old mid told mid_told new pieces pieces' end le same counts
 
 -- the source has no part in it
 pub shown_causes : (limits : Limits) (old new : DiskAt) (pieces pieces' : Option (List Piece)) (end : RunEnd) (source sink sink' disk disk' : ℕ) → HasShownOr limits old new pieces pieces' end
-    → CountsFault (ending_of end).write sink sink' → RoseWhere (ending_of end).disk disk disk' → CountFaults (ending_of end) (faults source sink disk) (faults source sink' disk')
+    → CountsFault (ending_of end).write sink sink' → CountsFault (ending_of end).disk disk disk' → HasCauses (ending_of end) (faults source sink disk) (faults source sink' disk')
 shown_causes limits old new pieces pieces' Done source sink sink' disk disk' h out rose = record { source = refl; sink = out; disk = rose }
 shown_causes limits old new pieces pieces' Read source sink sink' disk disk' h out rose = absurd h
 shown_causes limits old new pieces pieces' Write source sink sink' disk disk' h out rose = record { source = refl; sink = out; disk = rose }
@@ -184,11 +197,11 @@ module _ (limits : Limits) (old new : DiskAt) (s : Standing) (told : old.told �
   no_dispute p (inr other) = open'.agrees other.0 p (told_here (λ d. DiffersFirstAt p d.reading) other.1)
 
   pub done_or_starved : (pieces pieces' : Option (List Piece)) (counts counts' : Faults) (end : RunEnd) → (Rose counts.sink counts'.sink → ⊥) → (Rose counts.disk counts'.disk → ⊥)
-      → CountFaults (ending_of end) counts counts' → HasShownOr limits old new pieces pieces' end → (end ≡ Done) ⊎ (end ≡ Memory)
+      → HasCauses (ending_of end) counts counts' → HasShownOr limits old new pieces pieces' end → (end ≡ Done) ⊎ (end ≡ Memory)
   done_or_starved pieces pieces' counts counts' Done out calm causes h = inl refl
   done_or_starved pieces pieces' counts counts' Read out calm causes h = absurd h
   done_or_starved pieces pieces' counts counts' Write out calm causes h = absurd (out causes.sink.1)
-  done_or_starved pieces pieces' counts counts' Disk out calm causes h = absurd (calm causes.disk)
+  done_or_starved pieces pieces' counts counts' Disk out calm causes h = absurd (calm causes.disk.1)
   done_or_starved pieces pieces' counts counts' Memory out calm causes h = inr refl
   done_or_starved pieces pieces' counts counts' (NotAStore at) out calm causes h = absurd (no_store at h.1.0)
   done_or_starved pieces pieces' counts counts' (TooBig hit) out calm causes h = absurd (passes_none hit h.1)

@@ -5,7 +5,6 @@ ghost use Rattle.wse_apply.specs.Limit.{are_within};
 ghost use Rattle.wse_stream.specs.Causes.{CountsFault};
 ghost use Rattle.wse_stream.specs.Scene.{disk_at};
 ghost use Rattle.wse_show.specs.Show.{show_text};
-ghost use Rattle.wse_run.specs.Causes.{RoseWhere};
 ghost use Rattle.wse_run.specs.End.{ending_of};
 ghost use Rattle.wsedit.specs.Showing.{HasEmittedOr, Shows};
 
@@ -47,7 +46,7 @@ fn show_store<K: Sink, D: Disk>(alloc: Global, disk: D, limits: Limits, out: &mu
     ensures shows { Shows limits (disk_at D.moment_of D.told disk) (disk_at D.moment_of D.told result.disk)
         (K.pieces out.old) (K.pieces out.new) result.end }
     ensures sink { CountsFault (ending_of result.end).write (K.faults out.old) (K.faults out.new) }
-    ensures cause { RoseWhere (ending_of result.end).disk (D.faults disk) (D.faults result.disk) }
+    ensures cause { CountsFault (ending_of result.end).disk (D.faults disk) (D.faults result.disk) }
 {
     match Engine::start(alloc, disk, false, limits) {
         Ok(engine) => {
@@ -73,7 +72,7 @@ pub fn place_and_show<K: Sink, D: Place>(
     ensures shows { Shows limits (disk_at D.moment_of D.told disk) (disk_at D.moment_of D.told result.disk)
         (K.pieces out.old) (K.pieces out.new) result.end }
     ensures sink { CountsFault (ending_of result.end).write (K.faults out.old) (K.faults out.new) }
-    ensures cause { RoseWhere (ending_of result.end).disk (D.faults disk) (D.faults result.disk) }
+    ensures cause { CountsFault (ending_of result.end).disk (D.faults disk) (D.faults result.disk) }
 {
     let mut disk = disk;
     match disk.place(places.tree, places.store) {

@@ -1,6 +1,6 @@
 use Rattle.std.proofs.Common.{refl, subst}
 use Rattle.wse_stream.specs.Scene.{disk_at}
-use Rattle.wse_run.specs.Causes.{RoseWhere}
+use Rattle.wse_stream.specs.Causes.{CountsFault}
 use Rattle.wse_run.specs.End.{ending_of}
 use Rattle.wsedit.proofs.ShowingLemmas.{shows_earlier, leaves_untouched}
 use Rattle.wsedit.proofs.showing.place_and_show.Goals as goal
@@ -14,7 +14,7 @@ returns-in-Ok-clause-shows g c =
 
 pub returns-in-Ok-clause-cause : goal.returns-in-Ok-clause-cause
 returns-in-Ok-clause-cause g c =
-    subst (λ n. RoseWhere (ending_of c.show_store.result.end).disk n (g.D.Disk.faults c.show_store.result.disk)) c.in-Ok.ensures.cause.kept c.show_store.ensures.cause
+    subst (λ n. CountsFault (ending_of c.show_store.result.end).disk n (g.D.Disk.faults c.show_store.result.disk)) c.in-Ok.ensures.cause.kept c.show_store.ensures.cause
 
 -- the disk failed
 pub returns-in-Err-clause-shows : goal.returns-in-Err-clause-shows

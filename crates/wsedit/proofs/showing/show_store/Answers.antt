@@ -1,6 +1,6 @@
 use Rattle.std.proofs.Common.{false, sym, subst}
 use Rattle.wse_stream.specs.Scene.{disk_at}
-use Rattle.wse_run.specs.Causes.{RoseWhere}
+use Rattle.wse_stream.specs.Causes.{CountsFault}
 use Rattle.wse_run.specs.End.{ending_of}
 use Rattle.wse_run.proofs.RefusalLemmas.{unopened_causes}
 use Rattle.wsedit.specs.Showing.{Shows}
@@ -25,7 +25,7 @@ returns-in-Ok-clause-shows g c =
 pub returns-in-Ok-clause-cause : goal.returns-in-Ok-clause-cause
 returns-in-Ok-clause-cause g c =
     let count = g.D.Disk.faults in
-    subst (λ d. RoseWhere (ending_of c.emit_store-end.result).disk (count c.args.disk) (count d)) (sym c.into_disk.ensures.disk)
+    subst (λ d. CountsFault (ending_of c.emit_store-end.result).disk (count c.args.disk) (count d)) (sym c.into_disk.ensures.disk)
     (emitted_cause _ _ _ _ _ c.emit_store-end.result (count c.args.disk) (count c.in-Ok.engine.disk) c.emit_store-end.ensures.emitted c.in-Ok.ensures.kept)
 
 -- the store wasn't opened
