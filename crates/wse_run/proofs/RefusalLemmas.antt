@@ -18,7 +18,7 @@ use Rattle.wse_engine.specs.Start.{StartKeeps}
 use Rattle.wse_run.specs.End.{ending_of, end_of_served, IsServedEnd}
 use Rattle.wse_run.specs.Fault.{end_of_fault}
 use Rattle.wse_run.specs.Opening.{MayAdopt, Unread}
-use Rattle.wse_run.specs.Run.{machine_of, RunsStore, Refused, Failed}
+use Rattle.wse_run.specs.Run.{machine_of, RunsStore, Refused, Failed, Starved}
 use Rattle.wse_run.specs.declared.end.RunEnd.{RunEnd}
 
 module _ {D : Type 0} (moment_of : D → ℕ) (told : D → Option Standing) (count : D → ℕ) (adopt : Bool) (limits : Limits) (old : D) where
