@@ -67,7 +67,7 @@ leaves_untouched moment told now now_told counts same = leaves_shown moment told
 -- ---- behind an opening
 
 -- pieces of one moment that are a front of the text
-pub emits_of : (text : List ℕ) (moment : ℕ) (old new : Option (List Piece)) (added : List Piece) → Adds old new added → AllAt moment added → IsPrefix (bytes_of added) text → Emits text moment moment old new
+abbrev pub emits_of : (text : List ℕ) (moment : ℕ) (old new : Option (List Piece)) (added : List Piece) → Adds old new added → AllAt moment added → IsPrefix (bytes_of added) text → Emits text moment moment old new
 emits_of text moment old new added adds all front = record { added = added; adds = adds; times = within_at moment moment moment added (omega arith) (omega arith) all; front = front }
 
 -- the same text at the same moment
@@ -76,7 +76,7 @@ emitted_of text bytes moment at old new end is same e =
     subst (λ (t : List ℕ). HasEmittedOr t moment moment old new end) is (subst (λ (m : ℕ). HasEmittedOr bytes m m old new end) same e)
 
 -- the text came out at a moment between these
-emits_within : (text : List ℕ) (first moment last : ℕ) (old new : Option (List Piece)) → first ≤ moment → moment ≤ last → Emits text moment moment old new → Emits text first last old new
+abbrev emits_within : (text : List ℕ) (first moment last : ℕ) (old new : Option (List Piece)) → first ≤ moment → moment ≤ last → Emits text moment moment old new → Emits text first last old new
 emits_within text first moment last old new le le' e = record { added = e.added; adds = e.adds; times = within_wider first moment moment last e.added le le' e.times; front = e.front }
 
 pub shown_opened : (limits : Limits) (old new : DiskAt) (s : State) (pieces pieces' : Option (List Piece)) (end : RunEnd) → old.moment ≤ new.moment → Opens limits old.told new.told s
