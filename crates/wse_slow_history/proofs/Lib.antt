@@ -1,0 +1,7 @@
+pub mod AfterLemmas
+pub mod HeldLemmas
+pub mod OutcomeLemmas
+pub mod EffectLemmas
+pub mod MoveLemmas
+pub mod ReportLemmas
+pub mod EditOutcomeLemmas
