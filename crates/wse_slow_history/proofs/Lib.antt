@@ -1,4 +1,5 @@
 pub mod AfterLemmas
+pub mod FileLemmas
 pub mod HeldLemmas
 pub mod OutcomeLemmas
 pub mod EffectLemmas

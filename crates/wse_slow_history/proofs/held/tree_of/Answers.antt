@@ -1,7 +1,7 @@
 use Rattle.std.proofs.Common.{◌≡◌, ◌<◌, List, ℕ, length, take, true, get_or, inr, sym, ◌∙◌, ap}
 use Rattle.wse_path.specs.Path.{Path}
 use Rattle.wse_path.specs.Tree.{Entries, fits, put_file}
-use Rattle.wse_disk.proofs.EntryLemmas.{put_next, fits_next}
+use Rattle.wse_slow_history.proofs.FileLemmas.{put_next, fits_next}
 use Rattle.wse_slow_history.proofs.held.tree_of.Goals as goal
 
 pub put-requires : goal.put-requires
