@@ -3,6 +3,4 @@ pub mod FileLemmas
 pub mod HeldLemmas
 pub mod OutcomeLemmas
 pub mod EffectLemmas
-pub mod MoveLemmas
-pub mod ReportLemmas
 pub mod EditOutcomeLemmas

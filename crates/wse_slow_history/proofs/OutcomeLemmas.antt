@@ -1,28 +1,16 @@
--- What a limit makes of an outcome, and what a step keeps.
+-- Choices, and what a step keeps.
 use Rattle.std.proofs.Common.{◌≡◌, ◌≢◌, ℕ, Bool, true, false, List, [], ◌∷◌, length, nat_eq, Option, Some, None, refl, sym, ap, ◌∙◌, arith}
 use Rattle.std.specs.Prelude.{if◌then◌else◌}
 use Rattle.std.proofs.lemmas.Bool.{eqb-true}
-use Rattle.std.specs.Option.{option_map_or}
 use Rattle.wse_path.specs.declared.command.Command.{Command}
-use Rattle.wse_path.specs.declared.limits.Hit.{Hit}
 use Rattle.wse_path.specs.declared.limits.Limits.{Limits}
 use Rattle.wse_locks.specs.Locks.{Holders}
 use Rattle.wse_element.specs.declared.effect.Effect.{Effect}
 use Rattle.wse_element.specs.State.{State}
-use Rattle.wse_element.specs.Effects.{state_after}
-use Rattle.wse_history.specs.declared.answer.Answer.{Answer}
 use Rattle.wse_history.specs.History.{IsHistory}
-use Rattle.wse_history.specs.Outcome.{Outcome, stays, records, is_some_of}
-use Rattle.wse_history.specs.Limits.{hit_of, within_limits}
+use Rattle.wse_history.specs.Outcome.{is_some_of}
 use Rattle.wse_history.specs.Laws.{OutcomesMayApply, MayApply}
 use Rattle.wse_history.specs.Step.{outcome, recorded, with_locks, left, step}
-
-module _ (limits : Limits) (s : State) (effects : List Effect) (refused : Hit → Answer) (done : State → Answer) where
-  pub hit_refuses : (hit : Hit) → hit_of limits effects (state_after s effects) ≡ Some hit → within_limits limits s effects refused done ≡ stays (refused hit)
-  hit_refuses hit is = ap (λ (o : Option Hit). option_map_or (λ h. stays (refused h)) o (records effects (done (state_after s effects)))) is
-
-  pub none_records : hit_of limits effects (state_after s effects) ≡ None → within_limits limits s effects refused done ≡ records effects (done (state_after s effects))
-  none_records is = ap (λ (o : Option Hit). option_map_or (λ h. stays (refused h)) o (records effects (done (state_after s effects)))) is
 
 -- a choice by a test that is known
 pub chosen : {X : Type 0} (b : Bool) (one other : X) → b ≡ true → one ≡ (if b then one else other)
