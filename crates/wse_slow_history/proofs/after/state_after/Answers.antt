@@ -10,7 +10,7 @@ pub returns : goal.returns
 returns c =
     let s = state_of c.args.state.now in
     let same = c.in_ok-begun.ensures in
-    let serial = c.in_ok-sum.ensures ∙ ap (λ (x : State). x.serial + 1) same in
+    let serial = c.in_ok-begun-2.ensures ∙ ap (λ (x : State). x.serial + 1) same in
     IfOk-weaker c.after_effects.result _ _
     (λ last is. is ∙ ap (λ (x : State). after_effects x c.args.effects.now) (λ i. record (same i) { serial = serial i }) ∙ state_is s c.args.effects.now)
     c.after_effects.ensures
