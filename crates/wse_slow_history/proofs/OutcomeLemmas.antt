@@ -1,5 +1,5 @@
 -- Choices, and what a step keeps.
-use Rattle.std.proofs.Common.{◌≡◌, ◌≢◌, ℕ, Bool, true, false, List, [], ◌∷◌, length, nat_eq, Option, Some, None, refl, sym, ap, ◌∙◌, arith}
+use Rattle.std.proofs.Common.{◌≡◌, ◌≢◌, Bool, true, false, List, [], ◌∷◌, length, nat_eq, Option, Some, None, refl, sym, ap, arith}
 use Rattle.std.specs.Prelude.{if◌then◌else◌}
 use Rattle.std.proofs.lemmas.Bool.{eqb-true}
 use Rattle.wse_path.specs.declared.command.Command.{Command}
@@ -10,7 +10,7 @@ use Rattle.wse_element.specs.State.{State}
 use Rattle.wse_history.specs.History.{IsHistory}
 use Rattle.wse_history.specs.Outcome.{is_some_of}
 use Rattle.wse_history.specs.Laws.{OutcomesMayApply, MayApply}
-use Rattle.wse_history.specs.Step.{outcome, recorded, with_locks, left, step}
+use Rattle.wse_history.specs.Step.{outcome, recorded, with_locks, step}
 
 -- a choice by a test that is known
 pub chosen : {X : Type 0} (b : Bool) (one other : X) → b ≡ true → one ≡ (if b then one else other)

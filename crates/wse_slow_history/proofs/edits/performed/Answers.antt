@@ -1,8 +1,8 @@
-use Rattle.std.proofs.Common.{◌≡◌, true, sym, subst, ap, ◌∙◌}
+use Rattle.std.proofs.Common.{sym, subst, ap, ◌∙◌}
 use Rattle.std.proofs.lemmas.Result.{IfOk-weaker}
 use Rattle.std.specs.FinMap.{is_sorted}
 use Rattle.wse_path.specs.Order.{path_cmp}
-use Rattle.wse_path.specs.Tree.{Entries, IsTree}
+use Rattle.wse_path.specs.Tree.{IsTree}
 use Rattle.wse_path.specs.Versions.{Numbers}
 use Rattle.wse_element.specs.Numbers.{are_some, are_versions_bounded}
 use Rattle.wse_element.specs.State.{kept_of, stacks_of}

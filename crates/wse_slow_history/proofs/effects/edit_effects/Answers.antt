@@ -1,5 +1,4 @@
 use Rattle.std.proofs.Common.{◌≢◌, ◌++◌, ◌∙◌, map, ap, sym, subst}
-use Rattle.std.specs.Prelude.{filter}
 use Rattle.std.specs.List.{All}
 use Rattle.std.specs.FinMap.{is_sorted}
 use Rattle.wse_path.specs.Order.{path_cmp}

@@ -1,4 +1,4 @@
-use Rattle.std.proofs.Common.{◌≡◌, ◌<◌, List, ℕ, length, take, true, get_or, inr, sym, ◌∙◌, ap}
+use Rattle.std.proofs.Common.{List, ℕ, take, inr, ◌∙◌, ap}
 use Rattle.wse_path.specs.Path.{Path}
 use Rattle.wse_path.specs.Tree.{Entries, fits, put_file}
 use Rattle.wse_slow_history.proofs.FileLemmas.{put_next, fits_next}
