@@ -13,11 +13,13 @@ returns-in-Ok-clause-shows g c =
     let told = g.D.Disk.told in
     let engine = c.in-Ok.engine in
     let start = c.in-Ok.ensures in
-    subst (λ d. Shows c.args.limits (disk_at moment_of told c.args.disk) (disk_at moment_of told d) _ _ c.emit_store-end.result) (sym c.into_disk.ensures.disk)
+    let pieces = g.K.Sink.pieces c.args.out.now in
+    let shown = g.K.Sink.pieces c.emit_store-end.new.out in
+    subst (λ d. Shows c.args.limits (disk_at moment_of told c.args.disk) (disk_at moment_of told d) pieces shown c.emit_store-end.result) (sym c.into_disk.ensures.disk)
     (record {
       later = start.later;
       images = leaves_shown (moment_of c.args.disk) (told c.args.disk) (disk_at moment_of told engine.disk) (g.met.D.Disk.counts_moments c.args.disk) start.during;
-      shown = shown_opened c.args.limits (disk_at moment_of told c.args.disk) (disk_at moment_of told engine.disk) engine.state _ _ c.emit_store-end.result start.later
+      shown = shown_opened c.args.limits (disk_at moment_of told c.args.disk) (disk_at moment_of told engine.disk) engine.state pieces shown c.emit_store-end.result start.later
           (opens_of c.args.limits (told c.args.disk) (told engine.disk) engine.area engine.gate engine.state start.opened start.linked start.fits start.stands)
           c.emit_store-end.ensures.emitted;
     })

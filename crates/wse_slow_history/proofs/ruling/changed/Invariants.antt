@@ -1,0 +1,8 @@
+use Rattle.std.proofs.Common.{◌≡◌, map, take, filter, not, ◌&&◌}
+use Rattle.wse_element.specs.Live.{is_live}
+use Rattle.wse_element.specs.Applicable.{is_closest}
+use Rattle.wse_rules.specs.Ruling.{closest}
+use Rattle.wse_slow_history.proofs.ruling.changed.Given as goal
+
+abbrev pub invariant-loop-part : goal.invariant-loop-part
+invariant-loop-part l = l.files.items ≡ map (λ part. part.path) (filter (λ part. is_live part.state && not (is_closest l.element.id (closest l.direction l.records part.path))) (take l.part-index l.part-items))
