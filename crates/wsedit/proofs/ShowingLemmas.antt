@@ -1,5 +1,5 @@
 -- How the showing of a store goes.
-use Rattle.std.proofs.Common.{◌≡◌, ◌⊎◌, inl, inr, ⊎_elim, ℕ, ◌≤◌, Bool, true, false, List, Option, Some, None, Err, refl, sym, ap, subst, ◌∙◌, arith}
+use Rattle.std.proofs.Common.{◌≡◌, ◌⊎◌, inl, inr, ⊎_elim, ℕ, ◌≤◌, Bool, true, false, List, Option, Some, None, refl, sym, subst, arith}
 use Rattle.wse_path.specs.Causes.{Rose}
 use Rattle.wse_path.specs.declared.limits.Limits.{Limits}
 use Rattle.wse_path.specs.declared.limits.Hit.{Hit}
@@ -7,7 +7,6 @@ use Rattle.wse_apply.specs.Limit.{limit_hit}
 use Rattle.wse_element.specs.Linked.{IsStateLinked}
 use Rattle.wse_element.specs.State.{State}
 use Rattle.wse_disk.specs.declared.area.Area.{Area}
-use Rattle.wse_disk.specs.Reading.{Reading}
 use Rattle.wse_disk.specs.Standing.{Standing}
 use Rattle.wse_disk.specs.Told.{WhereTold, MayLeave, IsTold, CountsMoments, reading_of}
 use Rattle.wse_disk.specs.LeavesOnly.{LeavesOnly}

@@ -2,7 +2,7 @@
 use Rattle.std.specs.Prelude.{◌≡◌, ◌≤◌, ⊤, Option, Some, None}
 use Rattle.wse_path.specs.declared.limits.Limits.{Limits}
 use Rattle.wse_disk.specs.Standing.{Standing}
-use Rattle.wse_disk.specs.Told.{WhereTold, IsAtRest}
+use Rattle.wse_disk.specs.Told.{IsAtRest}
 use Rattle.wse_stream.specs.Scene.{Scene}
 use Rattle.wse_recover.specs.Init.{HasMade}
 use Rattle.wse_recover.specs.Measure.{TellsHit}

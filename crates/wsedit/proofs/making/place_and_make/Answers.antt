@@ -1,4 +1,4 @@
-use Rattle.std.proofs.Common.{◌≡◌, Option, subst}
+use Rattle.std.proofs.Common.{Option, subst}
 use Rattle.wse_disk.specs.Standing.{Standing}
 use Rattle.wse_stream.specs.Causes.{CountsFault}
 use Rattle.wse_run.specs.End.{ending_of}

@@ -1,6 +1,6 @@
-use Rattle.std.proofs.Common.{◌≡◌, refl, subst, rules}
+use Rattle.std.proofs.Common.{refl, subst}
 use Rattle.wse_stream.specs.Runs.{HasCauses}
-use Rattle.wse_stream.specs.Scene.{disk_at, scene, faults}
+use Rattle.wse_stream.specs.Scene.{faults}
 use Rattle.wse_run.specs.End.{ending_of}
 use Rattle.wse_run.specs.Run.{Failed}
 use Rattle.wse_run.proofs.OpeningLemmas.{untouched}

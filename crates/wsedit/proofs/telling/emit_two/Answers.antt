@@ -1,4 +1,4 @@
-use Rattle.std.proofs.Common.{◌≡◌, ◌++◌, subst, ◌∙◌}
+use Rattle.std.proofs.Common.{◌++◌, subst, ◌∙◌}
 use Rattle.std.proofs.lemmas.Result.{on_ok_weaker}
 use Rattle.wse_io.specs.Stream.{IsPrefix, bytes_of}
 use Rattle.wse_io.proofs.StreamLemmas.{prefix_of}
