@@ -62,12 +62,7 @@ fn serve_all(
     Ok(Stage::Stopped(disk))
 }
 
-fn tell_bytes(
-    alloc: Global,
-    disk: &QuietDisk,
-    area: Area,
-    out: &mut String,
-) -> Result<(), Memory> {
+fn tell_bytes(alloc: Global, disk: &QuietDisk, area: Area, out: &mut String) -> Result<(), Memory> {
     push_hex(alloc, out, disk.disk.area(area))?;
     out.push('\n')?;
     Ok(())

@@ -64,6 +64,21 @@ pub fn numbers_in(alloc: Global, value: &Value, name: &'static str) -> Result<Ve
     Ok(all)
 }
 
+/// A list of texts.
+pub fn texts_in(alloc: Global, value: &Value, name: &'static str) -> Result<Vec<String>, Refused> {
+    let mut all = Vec::new(alloc);
+    let Some(items) = optional(value, name).and_then(Value::as_array) else {
+        return Err(Refused::Member(name));
+    };
+    for item in items {
+        match item.as_str() {
+            Some(text) => all.push(String::from_str(alloc, text)?)?,
+            None => return Err(Refused::Member(name)),
+        }
+    }
+    Ok(all)
+}
+
 fn hex_bytes(alloc: Global, text: &str) -> Result<Vec<u8>, Refused> {
     match hex::decode(alloc, text) {
         Ok(bytes) => Ok(bytes),

@@ -2,7 +2,7 @@
 use crate::deeds::{on_disk, on_store};
 use crate::disks::{crashed, failing};
 use crate::refused::tell_refused;
-use crate::sim::simulate;
+use crate::sim::{Script, simulate, try_given};
 use crate::stage::{Stage, disk_over};
 use crate::step::{Deed, Step};
 use crate::steps::step_of;
@@ -56,12 +56,7 @@ fn crash(
     }
 }
 
-fn tell_calls(
-    alloc: Global,
-    stage: Stage,
-    told: usize,
-    out: &mut String,
-) -> Result<Stage, Memory> {
+fn tell_calls(alloc: Global, stage: Stage, told: usize, out: &mut String) -> Result<Stage, Memory> {
     if let Some(calls) = stage.disk().disk.calls().get(told..) {
         push_calls(alloc, out, calls)?;
     }
@@ -105,6 +100,14 @@ impl Lab {
                 Ok(Lab::at(crash(stage, moment, choice, out)?, limits))
             }
             Step::Calls => Ok(Lab::at(tell_calls(alloc, stage, told, out)?, limits)),
+            Step::Try { tree, lines } => {
+                try_given(alloc, &Script { tree, lines }, out)?;
+                Ok(Lab {
+                    stage,
+                    limits,
+                    told,
+                })
+            }
             Step::Sim { seed, count } => {
                 simulate(alloc, seed, count, out)?;
                 Ok(Lab {

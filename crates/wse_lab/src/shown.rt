@@ -42,13 +42,7 @@ fn state_name(part: &Part) -> &'static str {
     match part.state() {
         PartState::Closed => "closed",
         PartState::Incompatible => "incompatible",
-        PartState::Live => {
-            if part.is_valid() {
-                "valid"
-            } else {
-                "invalid"
-            }
-        }
+        PartState::Live => { if part.is_valid() { "valid" } else { "invalid" } }
     }
 }
 
@@ -66,7 +60,12 @@ fn push_part(alloc: Global, out: &mut String, part: &Part) -> Result<(), Memory>
 fn push_element(alloc: Global, out: &mut String, element: &Element) -> Result<(), Memory> {
     let done = if element.is_done() { "done" } else { "undone" };
     let splits = if element.splits() { " splits" } else { "" };
-    write!(out, "element {} of {} {done}{splits} ", element.id(), element.origin())?;
+    write!(
+        out,
+        "element {} of {} {done}{splits} ",
+        element.id(),
+        element.origin()
+    )?;
     out.push_str(element.label().as_str())?;
     out.push('\n')?;
     for part in element.parts() {
@@ -91,6 +90,11 @@ pub fn push_state(alloc: Global, out: &mut String, history: &History) -> Result<
     push_versions(alloc, out, history.versions())?;
     push_elements(alloc, out, history.stacks())?;
     let stacks = history.stacks();
-    write!(out, "serial {}, next id {}\n", stacks.serial(), stacks.next_id())?;
+    write!(
+        out,
+        "serial {}, next id {}\n",
+        stacks.serial(),
+        stacks.next_id()
+    )?;
     Ok(())
 }

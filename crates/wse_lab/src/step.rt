@@ -13,6 +13,8 @@ pub enum Step {
     Crash { moment: Option<u64>, choice: u64 },
     /// Tells the calls that changed the disk since the last such step.
     Calls,
+    /// Tries the lines over the tree, with a crash at every moment and with each call of a disk failing.
+    Try { tree: Tree, lines: Vec<String> },
     /// Tries scripts that are made from a number.
     Sim { seed: u64, count: u64 },
     Do(Deed),
@@ -24,9 +26,13 @@ pub enum Deed {
     /// Makes a store over the tree.
     Init,
     /// Opens the store, perhaps adopting what differs.
-    Start { adopt: bool },
+    Start {
+        adopt: bool,
+    },
     /// A command line, which the store answers.
-    Serve { line: Vec<u8> },
+    Serve {
+        line: Vec<u8>,
+    },
     /// Opens the store and answers lines from a source and into a sink that are as told.
     Run(Run),
     /// Closes the store.
@@ -34,11 +40,20 @@ pub enum Deed {
     /// Tells what the store holds, or the disk.
     Show,
     /// Tells the bytes of an area.
-    Bytes { area: Area },
+    Bytes {
+        area: Area,
+    },
     /// Writes into an area.
-    Patch { area: Area, at: u64, bytes: Vec<u8> },
+    Patch {
+        area: Area,
+        at: u64,
+        bytes: Vec<u8>,
+    },
     /// Stores a file behind the store's back, or erases it.
-    Put { path: RelPath, content: Option<Bytes> },
+    Put {
+        path: RelPath,
+        content: Option<Bytes>,
+    },
 }
 
 /// What lines are answered from and into.

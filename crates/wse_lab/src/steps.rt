@@ -1,7 +1,7 @@
 // Steps as lines say them.
 use crate::fields::{
     area_in, bytes_in, is_set, limits_in, number_in, number_or, numbers_in, optional, path_of,
-    text_in, tree_in,
+    text_in, texts_in, tree_in,
 };
 use crate::refused::Refused;
 use crate::step::{Deed, Run, Step};
@@ -56,6 +56,13 @@ fn tree(alloc: Global, value: &Value) -> Result<Step, Refused> {
     })
 }
 
+fn try_lines(alloc: Global, value: &Value) -> Result<Step, Refused> {
+    Ok(Step::Try {
+        tree: tree_in(alloc, value)?,
+        lines: texts_in(alloc, value, "lines")?,
+    })
+}
+
 fn sim(value: &Value) -> Result<Step, Refused> {
     Ok(Step::Sim {
         seed: number_in(value, "seed")?,
@@ -97,6 +104,7 @@ fn named(alloc: Global, name: &str, value: &Value) -> Result<Step, Refused> {
         "fail" => fail(alloc, value),
         "crash" => crash(value),
         "calls" => Ok(Step::Calls),
+        "try" => try_lines(alloc, value),
         "sim" => sim(value),
         _ => Ok(Step::Do(deed(alloc, name, value)?)),
     }

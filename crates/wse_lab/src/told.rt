@@ -16,7 +16,11 @@ pub fn area_name(area: Area) -> &'static str {
 
 fn push_kind(alloc: Global, out: &mut String, call: &Call) -> Result<(), Memory> {
     match call {
-        Call::Store { path, bytes, failed: _ } => {
+        Call::Store {
+            path,
+            bytes,
+            failed: _,
+        } => {
             out.push_str("store ")?;
             push_path(alloc, out, path)?;
             write!(out, " {}", bytes.len())?;
@@ -25,7 +29,12 @@ fn push_kind(alloc: Global, out: &mut String, call: &Call) -> Result<(), Memory>
             out.push_str("erase ")?;
             push_path(alloc, out, path)?;
         }
-        Call::Patch { area, at, bytes, failed: _ } => {
+        Call::Patch {
+            area,
+            at,
+            bytes,
+            failed: _,
+        } => {
             write!(out, "write {} {at} {}", area_name(*area), bytes.len())?;
         }
         Call::Sync { failed: _ } => out.push_str("sync")?,
