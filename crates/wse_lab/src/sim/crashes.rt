@@ -1,6 +1,6 @@
 // A crash at every moment of a run, and one more inside the opening behind it.
 use crate::disks::crashed;
-use crate::opening::open;
+use crate::opening::{Left, open};
 use crate::sim::counts::Counts;
 use crate::sim::past::{Past, state_of};
 use crate::sim::stop::SimStop;
@@ -24,7 +24,8 @@ pub struct Reopened {
 
 /// Opens the store on a disk; none where it doesn't open.
 pub fn open_again(alloc: Global, disk: QuietDisk) -> Result<Option<Reopened>, SimStop> {
-    match open(alloc, disk, false, Limits::standard()).stage {
+    let Left { stage, end: _ } = open(alloc, disk, false, Limits::standard());
+    match stage {
         Stage::Open(store) => {
             let state = state_of(alloc, &store)?;
             Ok(Some(Reopened {

@@ -1,5 +1,5 @@
 // Each call of the disk failing in turn, and the same disk started again.
-use crate::opening::{Answered, answer, make};
+use crate::opening::{Answered, Left, answer, make};
 use crate::sim::counts::Counts;
 use crate::sim::crashes::open_again;
 use crate::sim::past::{Past, made};
@@ -53,7 +53,8 @@ fn run_failing(alloc: Global, script: &Script, number: u64) -> Result<Stopped, S
 
 // A store is made over the disk again, and opened.
 fn made_again(alloc: Global, disk: QuietDisk) -> QuietDisk {
-    make(alloc, disk, &Limits::standard()).stage.into_disk()
+    let Left { stage, end: _ } = make(alloc, disk, &Limits::standard());
+    stage.into_disk()
 }
 
 // Whether the disk opens to the state behind so many lines, or behind one more.

@@ -61,7 +61,7 @@ fn renaming(alloc: Global, old: &str, dice: &mut Dice) -> Result<String, Memory>
 
 fn operations(alloc: Global, dice: &mut Dice) -> Result<String, Memory> {
     let mut all = operation(alloc, dice)?;
-    for _ in 0..dice.roll(3) {
+    for _ in 0..dice.roll(2) {
         all.push(',')?;
         all.push_str(operation(alloc, dice)?.as_str())?;
     }

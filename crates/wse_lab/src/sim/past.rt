@@ -1,5 +1,5 @@
 // An undisturbed run: the states, and the moments of the disk behind each answer.
-use crate::opening::{Answered, answer, make, open};
+use crate::opening::{Answered, Left, answer, make, open};
 use crate::shown::push_state;
 use crate::sim::script::Script;
 use crate::sim::stop::SimStop;
@@ -35,12 +35,13 @@ pub fn state_of(alloc: Global, store: &Store) -> Result<String, Memory> {
 /// The store that is made and opened, or the disk where a call failed before.
 pub fn made(alloc: Global, script: &Script, fails: Vec<u64>) -> Result<Stage, Memory> {
     let disk = disk_over(alloc, script.tree.duplicate(alloc)?, fails);
-    let left = make(alloc, disk, &Limits::standard());
-    if !matches!(&left.end, RunEnd::Done) {
-        return Ok(left.stage);
+    let Left { stage, end } = make(alloc, disk, &Limits::standard());
+    match end {
+        RunEnd::Done => {}
+        _ => return Ok(stage),
     }
-    let disk = left.stage.into_disk();
-    Ok(open(alloc, disk, false, Limits::standard()).stage)
+    let Left { stage, end: _ } = open(alloc, stage.into_disk(), false, Limits::standard());
+    Ok(stage)
 }
 
 impl Past {

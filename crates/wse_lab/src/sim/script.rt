@@ -24,7 +24,7 @@ fn put_some(alloc: Global, tree: &mut Tree, name: &str) -> Result<(), Memory> {
 
 fn draw_tree(alloc: Global, dice: &mut Dice) -> Result<Tree, Memory> {
     let mut tree = Tree::new(alloc);
-    for _ in 0..4 {
+    for _ in 0..8 {
         put_some(alloc, &mut tree, path(dice))?;
     }
     Ok(tree)
@@ -39,7 +39,7 @@ fn draw_lines(alloc: Global, dice: &mut Dice) -> Result<Vec<String>, Memory> {
 }
 
 impl Script {
-    /// A tree of up to four files, each with its name as content, and ten to twenty lines.
+    /// A tree of some files, each with its name as content, and ten to twenty lines.
     pub fn draw(alloc: Global, dice: &mut Dice) -> Result<Script, Memory> {
         let tree = draw_tree(alloc, dice)?;
         let lines = draw_lines(alloc, dice)?;
