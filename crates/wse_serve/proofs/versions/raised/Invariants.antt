@@ -1,6 +1,0 @@
-use Rattle.std.proofs.Common.{◌≡◌, take}
-use Rattle.wse_serve.specs.Edits.{raised}
-use Rattle.wse_serve.proofs.versions.raised.Given as goal
-
-abbrev pub invariant-loop-bump : goal.invariant-loop-bump
-invariant-loop-bump l = l.changed.items ≡ raised l.versions.entries (take l.bump-index l.bumps)
